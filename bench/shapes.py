@@ -42,17 +42,17 @@ def word(number: int) -> str:
 
 
 def words(count: int, start: int = 0) -> str:
-    """A choice of so many words."""
+    """A choice of `count` words."""
     return "|".join(word(it) for it in range(start, start + count))
 
 
 def long_words(count: int, start: int = 0) -> str:
-    """A choice of so many words of four parts."""
+    """A choice of `count` words of four parts."""
     return "|".join("-".join(word(it + part) for part in range(0, 4000, 1000)) for it in range(start, start + count))
 
 
 def optional_groups(parts: int, count: int, start: int = 0) -> str:
-    """So many parts, each an optional group of so many words."""
+    """As many parts as `parts` says, each an optional group of `count` words."""
     return "".join(rf"\s*(?P<g{at}>(?:{words(count, count * at + start)})\s\S+)*" for at in range(parts))
 
 
@@ -126,7 +126,7 @@ class Maker:
         return f"{self.random.choice(['(?:', '('])}{branches}){self.quantifier()}"
 
     def repeated(self) -> str:
-        """A code, counted or in a loop, so many times."""
+        """A code, counted or in a loop, up to 60 times."""
         return (self.one(0) + self.quantifier()) * self.size(60)
 
     def lines(self, depth: int) -> str:
@@ -144,7 +144,7 @@ def slowest(found: Sequence[Found], most: int) -> List[Found]:
 
 
 def search(judge: Callable[[Shape], Run], seconds: float, seed: int, most: int) -> Tuple[List[Found], int]:
-    """Judges random shapes for so many seconds, or until it is interrupted; the slowest, and how many were tried."""
+    """Judges random shapes for `seconds`, or until it is interrupted; the slowest, and how many were tried."""
     found: List[Found] = []
     maker, tried = Maker(seed), 0
     end = time.monotonic() + seconds

@@ -36,7 +36,7 @@ class Chance:
         self.random = random.Random("%s %d %d" % (target, seed, number))
 
     def one(self, of: int) -> bool:
-        """True once in so many times."""
+        """True once in `of` times."""
         return self.random.randrange(of) == 0
 
     def below(self, most: int) -> int:
@@ -48,7 +48,7 @@ class Chance:
         return items[self.random.randrange(len(items))]
 
     def some(self, items: Sequence[Item], most: int) -> List[Item]:
-        """At most so many of these, with repeats."""
+        """At most `most` of these, with repeats."""
         return [self.pick(items) for _ in range(self.below(most + 1))]
 
     def pattern(self, depth: int = 3) -> str:

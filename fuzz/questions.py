@@ -2,32 +2,19 @@
 from __future__ import annotations
 
 import json
-import os
-import platform
 import subprocess
-from pathlib import Path
 from typing import Any, Dict, List, Optional
 
 from chance import STRANGE, VALUES, Chance
 from program import SECONDS, Ran, Runner
+from runner.programs import tested_spans
 
-TOP = Path(__file__).resolve().parent.parent
 MODES = ("search", "match", "fullmatch", "one-search")
 TOKENS = [it.encode("utf-8") for it in ('"', "{", "}", ":", ",", "null", "\\u0000", "\\ud800", "[" * 3000, "1e999", *STRANGE)]
 # The keys of each answer.
 ANSWERS = {
     "same": {"answer"}, "differ": {"answer", "empty", "first", "from", "second", "text"}, "exceeded": {"answer", "limit"},
     "undecided": {"answer", "cause"}, "refused": {"answer", "cause", "pattern"}, "error": {"answer", "message"}}
-
-
-def found() -> Optional[str]:
-    """The program relint-spans to test: the one that RELINT_SPANS names, else the one built here, else that of the release."""
-    named = os.environ.get("RELINT_SPANS", "")
-    places = [TOP / "crates/relint_spans/out/relint_spans", TOP / "release" / platform.machine() / "relint-spans"]
-    for place in [Path(named)] if named else places:
-        if place.is_file() and os.access(str(place), os.X_OK):
-            return str(place.resolve())
-    return None
 
 
 def _question(chance: Chance) -> Dict[str, Any]:
@@ -46,9 +33,10 @@ def _question(chance: Chance) -> Dict[str, Any]:
 
 def spans(runner: Runner, chance: Chance, kept: Optional[bytes]) -> None:
     """Each line has one answer of a known form; asked the other way round, a pair has the mirrored answer."""
-    program = found()
-    if program is None:
+    tested = tested_spans()
+    if tested is None:
         return
+    program = str(tested)
     if kept is not None:
         lines = kept.rstrip(b"\n").split(b"\n")
     else:

@@ -97,18 +97,21 @@ def is_found(row: Row, said: Mapping[str, Optional[str]]) -> bool:
     return any(it == "exponential" or (it.startswith("degree ") and int(it.split()[1]) > 1) for it in named)
 
 
-def text_of(chosen: Sequence[Row]) -> str:
-    """Returns the table for docs/EVIDENCE.md, by what the rows expect."""
-    lines = ["| Pattern | From | Class given | relint | judged elsewhere | seen to hang |\n", "|---|---|---|---|---|---|\n"]
+def table_of(chosen: Sequence[Row]) -> str:
+    """Returns the table for bench/data/known.tsv, by what the rows expect: a line for each, its cells separated by tabs."""
+    lines = ["\t".join(("Number", "Pattern", "From", "Class given", "Note", "relint", "judged elsewhere", "seen to hang"))]
     for number, row in enumerate(chosen, 1):
         where = f"{row.source}, {row.package}" if row.package else row.source
-        said = " | ".join(row.expected[it] or "" for it in ("relint", "elsewhere", "hang"))
-        note = f" ({row.why})" if row.why else ""
-        lines.append(f"| {number}: {row.name} | {where} | {row.given}{note} | {said} |\n")
+        said = [row.expected[it] or "" for it in ("relint", "elsewhere", "hang")]
+        lines.append("\t".join((str(number), row.name, where, row.given, row.why, *said)))
+    return "".join(f"{it}\n" for it in lines)
+
+
+def text_of(chosen: Sequence[Row]) -> str:
+    """Returns what docs/EVIDENCE.md says of the table."""
     counts = {kind: sum(is_found(it, it.expected) for it in chosen if it.given == kind) for kind in CLASSES}
     totals = {kind: sum(it.given == kind for it in chosen) for kind in CLASSES}
-    lines.append(
-        f"\nOf {totals['exponential']} patterns that are exponential by their source, one of the three says so of "
+    return (
+        f"Of {totals['exponential']} patterns that are exponential by their source, one of the three says so of "
         f"{counts['exponential']}. Of {totals['polynomial']} that are polynomial, one of them names degree 2 or more of "
-        f"{counts['polynomial']}. The others have the reason in their row.\n")
-    return "".join(lines)
+        f"{counts['polynomial']}. The table says why for the others.\n")

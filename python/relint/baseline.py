@@ -1,7 +1,7 @@
 """The baseline of the tools: the findings that a team has accepted, each with its pattern and a reason.
 
-The file is a report of version 2, so `relint check --baseline` takes it too. That goes by path, call and class; the tools also
-go by the pattern and its flags. So another pattern in the place of an accepted one is shown, also if it has the same class.
+The file is a report of version 2, so `relint check --baseline` accepts it too. relint compares path, call and class; the tools
+also compare the pattern and its flags, and so show a new pattern in place of an accepted one even if its class is the same.
 """
 from __future__ import annotations
 
@@ -28,7 +28,7 @@ MOST_DEGREE = 4_294_967_295
 
 
 class BaselineError(Exception):
-    """The baseline can't be used: the message names the file and says why, and `status` is the exit status."""
+    """Raised if the baseline can't be used: the message names the file and says why, and `status` is the exit status."""
 
     def __init__(self, message: str, status: int = REFUSED) -> None:
         super().__init__(message)
@@ -36,14 +36,14 @@ class BaselineError(Exception):
 
 
 class Pattern(NamedTuple):
-    """What is accepted, wherever it lies: a call of re, the pattern as a Python literal, and the letters of its flags."""
+    """An accepted pattern without its place: a call of `re`, the pattern as a Python literal, and the letters of its flags."""
 
     call: str
     literal: str
     flags: str
 
     def fingerprint(self) -> str:
-        """Returns the fingerprint that an entry has beside the pattern, so that neither is changed without the other."""
+        """Returns a hash of the three fields. An entry has it too, so that its fields can't be changed by accident."""
         text = json.dumps(self, separators=(",", ":"))
         return hashlib.sha256(text.encode("ascii")).hexdigest()[:FINGERPRINT_LENGTH]
 
@@ -57,9 +57,9 @@ def pattern_of(entry: Entry, site: Optional[Site]) -> Optional[Pattern]:
 
 @dataclass(frozen=True)
 class Accepted:
-    """An entry of the baseline. `path` is relative to the file's folder; a worse class than this one isn't accepted.
+    """An entry of the baseline. `path` is relative to the folder of the file. A class worse than this one isn't accepted.
 
-    `beyond` is the kind of a finding of relint-wide; such an entry accepts only findings of that kind.
+    `beyond` is the kind of a finding of relint-wide, or "". The entry accepts only findings of that kind.
     """
 
     path: str
@@ -87,7 +87,7 @@ class Accepted:
         return json.dumps(held, separators=(",", ":"))
 
     def words(self) -> str:
-        """Returns the entry in words: where, which call, and which pattern."""
+        """Returns the entry in words: its path, its call, and its pattern."""
         flags = f" (flags {self.pattern.flags})" if self.pattern.flags else ""
         kind = f", {KIND_WORDS[self.beyond]}" if self.beyond else ""
         return f"{visible(self.path)}: {self.pattern.call}: {self.pattern.literal}{flags}{kind}"
@@ -95,7 +95,7 @@ class Accepted:
 
 @dataclass(frozen=True)
 class Found:
-    """A finding of a run, with its path from the baseline's folder, and its pattern if that can be read."""
+    """A finding of a run, with its path from the baseline's folder, and its pattern or None if that can't be read."""
 
     entry: Entry
     path: str
@@ -103,18 +103,18 @@ class Found:
 
     @property
     def beyond(self) -> str:
-        """The kind of a finding of relint-wide, or ""."""
+        """The kind of the finding if it is one of relint-wide, otherwise ""."""
         return self.entry.beyond.kind if self.entry.beyond else ""
 
     @property
     def key(self) -> Tuple[str, Optional[Pattern], str]:
-        """What an entry that accepts the finding has in common with it."""
+        """The key of the finding, which an entry that accepts it has too."""
         return self.path, self.pattern, self.beyond
 
 
 @dataclass(frozen=True)
 class Baseline:
-    """The accepted entries of a file; its folder is what their paths are relative to."""
+    """A baseline file and its accepted entries, whose paths are relative to the folder of the file."""
 
     file: str
     entries: Tuple[Accepted, ...] = ()
@@ -125,13 +125,13 @@ class Baseline:
         return os.path.realpath(os.path.dirname(self.file) or ".")
 
     def found(self, entry: Entry, site: Optional[Site]) -> Found:
-        """Returns a finding as the baseline looks at it."""
+        """Returns a finding in the form that is compared with entries."""
         return Found(entry, relative(file_of(entry), self.folder), pattern_of(entry, site))
 
     def text(self) -> str:
-        """Returns the file's text: one entry a line, sorted.
+        """Returns the text of the file: one entry per line, sorted.
 
-        What relint-wide found is in a list of its own, so that it hides nothing from `relint check --baseline`.
+        Entries for findings of relint-wide are in a list of their own, so that `relint check --baseline` ignores them.
         """
         own = [it for it in self.entries if not it.beyond]
         beyond = [it for it in self.entries if it.beyond]
@@ -155,9 +155,11 @@ class Moved:
 
 @dataclass
 class Split:
-    """What a baseline says of the findings of a run: which are new, which are accepted, and which of its entries are stale.
+    """The findings of a run compared with a baseline.
 
-    A stale entry whose pattern moved to another file is in `moved` instead.
+    `new` are the findings that no entry accepts, and `known` those that are accepted, with their entries. `stale` are the
+    entries that accept nothing any more; if the pattern of one moved to another file, it is in `moved` instead. `unlooked` are
+    entries about files that the run didn't look at.
     """
 
     new: List[Found] = field(default_factory=list)
@@ -172,16 +174,16 @@ _Key = Tuple[str, Optional[Pattern], str]
 
 
 def relative(path: str, folder: str) -> str:
-    """Returns a path from a folder, however it is named from here."""
+    """Returns a path of the current folder as a path relative to `folder`, with `/` between its parts."""
     above, name = os.path.split(path)
     return os.path.relpath(os.path.join(os.path.realpath(above or "."), name), folder).replace(os.sep, "/")
 
 
 def split(baseline: Baseline, found: Sequence[Found], was_looked_at: Callable[[Accepted], bool]) -> Split:
-    """Returns what the baseline says of findings.
+    """Compares findings with a baseline.
 
-    An entry accepts one finding of the same path, call, pattern, flags and kind whose class is no worse. An entry is stale if
-    it accepts none, and its file is gone or `was_looked_at` for such findings.
+    An entry accepts one finding with the same path, call, pattern, flags and kind whose class is no worse. An entry is stale
+    if it accepts none, and either its file is gone or `was_looked_at` says that the run looked for its finding.
     """
     left: Dict[_Key, List[Accepted]] = {}
     for it in sorted(baseline.entries, key=lambda it: (it.kind == "exponential", it.degree or 0)):
@@ -202,7 +204,7 @@ def split(baseline: Baseline, found: Sequence[Found], was_looked_at: Callable[[A
 
 
 def _taken(left: Dict[_Key, List[Accepted]], one: Found) -> Optional[Accepted]:
-    """Takes the first entry that accepts the finding, the one of the least class, from those that are left."""
+    """Removes the entry of the least class that accepts the finding from those that are left, and returns it, or None."""
     several = left.get(one.key, []) if one.pattern else []
     fitting = next((it for it in several if it.covers(one.entry)), None)
     if fitting is not None:
@@ -213,7 +215,7 @@ def _taken(left: Dict[_Key, List[Accepted]], one: Found) -> Optional[Accepted]:
 def _put_unmatched(
     answer: Split, folder: str, it: Accepted, same: List[Found], was_looked_at: Callable[[Accepted], bool],
 ) -> None:
-    """Puts an entry that accepts no finding where it belongs; `same` are the new findings of its pattern."""
+    """Adds an entry that accepts no finding to the right list of `answer`; `same` are the new findings of its pattern."""
     is_gone = not os.path.lexists(os.path.join(folder, it.path))
     there = next((one for one in same if it.covers(one.entry)), None)
     if is_gone and there is not None:
@@ -226,7 +228,7 @@ def _put_unmatched(
 
 
 def accepted(one: Found, reason: str) -> Accepted:
-    """Returns a finding as an entry. Raises BaselineError if its pattern can't be read."""
+    """Returns an entry that accepts a finding. Raises BaselineError if its pattern can't be read or the reason isn't valid."""
     place = f":{one.entry.place.line}" if one.entry.place else ""
     if one.pattern is None:
         raise BaselineError(f"{visible(one.entry.path)}{place}: the pattern or its flags can't be read from the source, "
@@ -235,7 +237,7 @@ def accepted(one: Found, reason: str) -> Accepted:
 
 
 def checked_reason(text: str) -> str:
-    """Returns a reason without blanks around it. Raises BaselineError if it is none."""
+    """Returns a reason with single blanks between its words. Raises BaselineError if it is empty, too long or not UTF-8."""
     reason = " ".join(text.split())
     if not reason or len(reason) > LONGEST_REASON:
         raise BaselineError(f"a reason has from 1 to {LONGEST_REASON:,} characters")
@@ -245,14 +247,14 @@ def checked_reason(text: str) -> str:
 
 
 def updated(baseline: Baseline, said: Split) -> Baseline:
-    """Returns the baseline without its stale entries, and with what moved in its new place. It accepts nothing new."""
+    """Returns the baseline without its stale entries, and with new paths for moved ones. It accepts no new findings."""
     kept = [_no_better(old, one.entry) for one, old in said.known]
     moved = [replace(_no_better(it.accepted, it.found.entry), path=it.found.path) for it in said.moved]
     return replace(baseline, entries=(*kept, *moved, *said.unlooked))
 
 
 def _no_better(old: Accepted, entry: Entry) -> Accepted:
-    """An entry with the class that its finding has now, which is no worse."""
+    """The entry with the present class of its finding, which is no worse than the accepted one."""
     return replace(old, kind=entry.kind, degree=entry.degree)
 
 
@@ -282,6 +284,7 @@ def _bytes_of(file: str, name: str) -> bytes:
 
 
 def _entry(held: Any, place: str, kinds: Sequence[str]) -> Accepted:
+    """The entry that JSON holds. Raises BaselineError, which names `place`, if it isn't valid or is of another kind."""
     if not isinstance(held, dict):
         raise BaselineError(f"{place}: no object")
     if "pattern" not in held:
@@ -322,7 +325,10 @@ def _value(literal: str, place: str) -> Text:
 
 
 def write_baseline(baseline: Baseline) -> List[str]:
-    """Writes the file whole, or leaves it as it was; returns in words what of it couldn't be kept. Raises BaselineError."""
+    """Writes the file whole, or raises BaselineError and leaves it as it was.
+
+    Returns words for each thing that couldn't be kept, such as the owner of the file.
+    """
     try:
         return replace_file(baseline.file, baseline.text().encode("ascii"))
     except WriteError as error:

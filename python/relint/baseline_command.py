@@ -34,7 +34,7 @@ PLACE = re.compile(r"(.+?):([0-9]{1,9})(?::([0-9]{1,9}))?", re.S)
 
 
 def parser() -> Parser:
-    """Returns the reader of the tool's words."""
+    """Returns the parser of the tool's command line."""
     found = Parser(NAME, WHAT, END)
     gather.add_options(found)
     gather.add_time_options(found)
@@ -45,7 +45,7 @@ def parser() -> Parser:
 
 
 def _action(given: argparse.Namespace) -> str:
-    """The action that the words name; it is taken out of the paths."""
+    """The action that the command line names, which is removed from the paths."""
     if given.paths and given.paths[0] in ACTIONS:
         action = str(given.paths.pop(0))
     elif given.update:
@@ -60,7 +60,7 @@ def _action(given: argparse.Namespace) -> str:
 
 
 def _file(given: argparse.Namespace) -> str:
-    """The file that is written."""
+    """The baseline file that is to be read or written."""
     found = gather.found_config(given)
     if given.baseline is not None:
         return str(given.baseline)
@@ -68,7 +68,7 @@ def _file(given: argparse.Namespace) -> str:
 
 
 def _run(given: argparse.Namespace, baseline: Baseline) -> Tuple[gather.Gathered, Split]:
-    """The run over the paths without a baseline, and what the baseline says of it."""
+    """Runs relint over the paths without a baseline; returns the run, and its findings compared with the baseline."""
     given.baseline = ""
     run = gather.gathered(given)
     gather.tell(NAME, run)
@@ -89,7 +89,7 @@ def _place(one: Found) -> str:
 
 
 def write(given: argparse.Namespace) -> int:
-    """Accepts all findings of a run: makes the file, or makes it anew and keeps the reasons that are known."""
+    """Writes a baseline that accepts all findings of a run, and keeps the reasons of the old one. Returns the exit status."""
     file = _file(given)
     before = None
     if os.path.lexists(file):
@@ -106,7 +106,7 @@ def write(given: argparse.Namespace) -> int:
 
 
 def _accepted(found: Sequence[Found], reason: str) -> List[Accepted]:
-    """The findings as entries; one whose pattern can't be read is named."""
+    """The entries that accept the findings. A finding whose pattern can't be read is named on standard error."""
     entries = []
     for one in found:
         try:
@@ -117,7 +117,7 @@ def _accepted(found: Sequence[Found], reason: str) -> List[Accepted]:
 
 
 def update(given: argparse.Namespace) -> int:
-    """Takes out the entries that are stale, and moves those whose files were renamed; names what isn't accepted."""
+    """Removes the stale entries, moves those whose files were renamed, and names the findings that aren't accepted."""
     before = read_baseline(_file(given))
     _, said = _run(given, before)
     _put(updated(before, said), before)
@@ -129,7 +129,7 @@ def update(given: argparse.Namespace) -> int:
 
 
 def accept(given: argparse.Namespace) -> int:
-    """Adds the findings of a line of a file, each with the reason; an entry that is there already gets the new reason."""
+    """Accepts the findings in a line of a file, each with the reason. An entry that is there already gets the new reason."""
     if given.reason is None:
         raise BaselineError("accept needs --reason WORDS: why is the finding acceptable?")
     reason = checked_reason(given.reason)
@@ -151,7 +151,7 @@ def accept(given: argparse.Namespace) -> int:
 
 
 def _is_at(run: gather.Gathered, one: Found, line: int, column: int) -> bool:
-    """Whether the pattern of a finding has a part in the line, and begins at the column where one is given."""
+    """Whether the pattern of a finding has a part in the line and, if a column is given, begins there."""
     place = one.entry.place
     if place is None or (column and (place.line, place.column) != (line, column)):
         return False
@@ -164,6 +164,7 @@ def _is_at(run: gather.Gathered, one: Found, line: int, column: int) -> bool:
 
 
 def _without(entries: Sequence[Accepted], some: Sequence[Accepted]) -> List[Accepted]:
+    """The entries without some of them; an entry that is there twice is removed only as often as it is in `some`."""
     left = list(entries)
     for it in some:
         left.remove(it)
@@ -178,7 +179,7 @@ def _work(given: argparse.Namespace) -> int:
 
 
 def main(words: Optional[Sequence[str]] = None) -> int:
-    """Runs the tool with the words of the command line, and answers the exit status."""
+    """Runs the tool with the words of the command line, and returns the exit status."""
     given = gather.parsed(parser(), words)
     return gather.ended(NAME, lambda: _work(given))
 

@@ -1,6 +1,6 @@
-"""What a report of relint-wide says of an entry beyond what `relint check` proves: how it was found, and what was seen.
+"""The part of an entry that only findings of relint-wide have: how it was found, and what was seen.
 
-Such entries are in a list of their own, `beyond`, of a report in JSON, and never in `entries`.
+In a report in JSON, such entries are in a list of their own, `beyond`, and never in `entries`.
 """
 from __future__ import annotations
 
@@ -9,20 +9,20 @@ from typing import Any, Dict, Mapping, Optional, Tuple, Union
 
 ELSEWHERE, HANG = "elsewhere", "hang"
 KIND_WORDS = {ELSEWHERE: "judged elsewhere", HANG: "seen to hang"}
-# What stands above the findings of each kind.
+# The heading above the findings of each kind.
 TITLES = {
     ELSEWHERE: "judged elsewhere: found by reading the sources, which isn't proved; the class is relint's own answer",
     HANG: "seen to hang: patterns that relint can't judge, each tried on a Python; nothing of it is proved",
 }
 MOST_ITEMS = 1000
-# What stands between the path of a notebook and the number of a cell in an entry's path.
+# The text between the path of a notebook and the number of a cell in an entry's path.
 CELL = ":cell "
 ENGINES = ("re", "regex")
 MODES = ("search", "match", "fullmatch")
 
 
 class BeyondError(ValueError):
-    """What a report says of an entry isn't in the form of relint-wide; the message says what is wrong."""
+    """Raised if this part of an entry isn't in the right form; the message says what is wrong."""
 
 
 @dataclass(frozen=True)
@@ -36,9 +36,9 @@ class Holder:
 
 @dataclass(frozen=True)
 class Seen:
-    """A match that took too long: on which Python, on a text of what length, and from which loosened form the text comes.
+    """A match that took too long: the version of Python, the length of the text, and the loosened form that gave the text.
 
-    `rules` names what was loosened. `seconds` is the limit that the match passed.
+    `rules` names what was loosened. `seconds` is the limit that the match exceeded.
     """
 
     python: str
@@ -51,9 +51,9 @@ class Seen:
 
 @dataclass(frozen=True)
 class Beyond:
-    """How an entry was found. `pattern`, `flags` and `mode` are what was judged or tried; `end` is where the code for it ends.
+    """How an entry was found. `pattern`, `flags` and `mode` are what was judged or tried; `end` is where its code ends.
 
-    `kind` is ELSEWHERE or HANG. `taker` is what takes the pattern in the source; `notes` are words for people.
+    `kind` is ELSEWHERE or HANG. `taker` is the function or class that takes the pattern; `notes` are sentences for people.
     """
 
     kind: str
@@ -69,13 +69,13 @@ class Beyond:
     seen: Optional[Seen] = None
 
     def held_words(self, path: str) -> str:
-        """Returns the names that hold the pattern, as "held by `PATTERN` (line 12)"; "" where there is none."""
+        """Returns words for the names that hold the pattern, such as "held by `PATTERN` (line 12)"; "" if there are none."""
         here = path.partition(CELL)[0] if self.cell is not None else path
         parts = [f"`{it.name}` ({'' if it.path == here else it.path + ', '}line {it.line})" for it in self.held]
         return "held by " + ", ".join(parts) if parts else ""
 
     def seen_words(self) -> str:
-        """Returns what was seen, in one line; "" where nothing was tried."""
+        """Returns a line that says what was seen; "" if nothing was tried."""
         if self.seen is None:
             return ""
         return (f"seen on {self.seen.python}: a text of {self.seen.length:,} characters takes over {self.seen.seconds:g} s;"
@@ -83,7 +83,7 @@ class Beyond:
 
 
 def _coded(text: Union[str, bytes]) -> Dict[str, str]:
-    """A text as a value of JSON that keeps each of its codes."""
+    """A text or bytes as a value for JSON."""
     if isinstance(text, bytes):
         return {"bytes": text.decode("latin-1")}
     return {"text": text}
@@ -100,7 +100,7 @@ def _decoded(found: Any, what: str) -> Union[str, bytes]:
 
 
 def as_json(beyond: Beyond) -> Dict[str, Any]:
-    """Returns the values for JSON."""
+    """Returns this part of an entry as values for JSON."""
     found: Dict[str, Any] = {
         "kind": beyond.kind, "pattern": _coded(beyond.pattern), "flags": beyond.flags, "mode": beyond.mode,
         "taker": beyond.taker, "end": {"line": beyond.end[0], "column": beyond.end[1]},
@@ -117,7 +117,7 @@ def as_json(beyond: Beyond) -> Dict[str, Any]:
 
 
 def read_beyond(found: Any) -> Beyond:
-    """Returns what the values from JSON say. Raises BeyondError where they aren't in the form that `as_json` gives."""
+    """Returns this part of an entry from values of JSON. Raises BeyondError if they aren't in the form of `as_json`."""
     if not isinstance(found, dict):
         raise BeyondError("it is no object")
     end = found.get("end")

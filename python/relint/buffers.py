@@ -1,4 +1,4 @@
-"""Judges the text that an editor or another tool holds, in place of the file at its path.
+"""Judges the text that an editor or another tool has, instead of the file at its path.
 
 The configuration and the baseline count as for the file: they go by its path, of which nothing is read. relint reads files, so
 the text lies in a private folder while it is judged. The path and the text are those of others, and nothing of them is run.
@@ -22,16 +22,16 @@ from .reports import Entry
 from .selection import Selection
 from .writing import visible
 
-# What is raised for a known reason; the message of each is one line for a user.
+# The exceptions with known reasons; the message of each is one line for users.
 KNOWN = (GatherError, ConfigError, BaselineError, JudgeError, program.ProgramError)
 
 
 class NotJudged(Exception):
-    """There is no answer; the message says why, in one line that shows itself."""
+    """Raised if there is no answer; the message says why, in one line that can be printed."""
 
 
 class BufferSources(Sources):
-    """The sources of a run over one file, whose text is held by somebody else. No other file is opened."""
+    """The sources of a run over one file whose text is given. No other file is opened."""
 
     def __init__(self, path: str, data: bytes) -> None:
         """Takes the path by which entries name the file, and its bytes."""
@@ -53,7 +53,7 @@ class Judged:
 
 
 def judged(text: str, path: str, most: Optional[int] = None) -> Optional[Judged]:
-    """Returns what relint says of a text that is to be the file at a path, or None where the configuration leaves it out.
+    """Returns what relint says of a text that is to be the file at a path, or None if the configuration leaves it out.
 
     Of `most` findings at most, the worst, more is found out than the class. Raises NotJudged, and nothing else: another error
     would stop flake8 for good, and would take the findings of other plugins from an editor.

@@ -1,7 +1,7 @@
-"""The calls of a source whose first argument is a string literal, as the running Python parses them.
+"""Finds the calls of a source whose first argument is a string literal, as the running Python parses them.
 
-Sources that are small and flat are parsed at once. Others are parsed in a process of their own, for which this file is the
-script: before Python 3.11 its parser can crash on deep sources, and the tree of a large one may take a gigabyte.
+Sources that are small and flat are parsed here. Others are parsed in a process of their own, because the parser can crash on
+deep sources before Python 3.11, and the tree of a large source may take a gigabyte.
 """
 from __future__ import annotations
 
@@ -16,23 +16,24 @@ from typing import Any, Dict, Iterator, List, NamedTuple, Optional, Tuple
 
 from .flags import NAMES, VALUES
 
-# A larger source, or one with more signs that can nest, is parsed in a process of its own.
+# A source with more bytes, or with more signs that can nest, is parsed in a process of its own.
 LARGEST_AT_ONCE, MOST_SIGNS = 65_536, 3_000
 SIGNS = re.compile(rb"[-+*/%@&|^.(\[{<>~]|\b(?:not|if|else|elif|lambda|await|for|and|or)\b")
-# What that process may take.
+# The seconds and the bytes of memory that this process may take.
 SECONDS, MEMORY = 30, 2_147_483_648
 CHILD = os.path.join(os.path.dirname(os.path.abspath(__file__)), "calls_child.py")
-# (a pattern under LOCALE has no fixed meaning, so its flags aren't known)
+# The flags without LOCALE, under which a pattern has no fixed meaning.
 FLAG_NAMES = {name: value for name, value in NAMES.items() if value != VALUES["L"]}
-# The last position at which a call of re takes flags.
+# The last position of the argument `flags` in a call of `re`.
 LAST_ARGUMENT = 4
 
 
 class Call(NamedTuple):
-    """What is known of a call. `flags` are those of the argument of that name and of those behind the first one, by position.
+    """The flags that the arguments of a call would give.
 
-    Each is None where it isn't written with names of re; what isn't there isn't among them. `is_plain` says whether the
-    argument `repl`, or the second one, is a literal without a backslash.
+    `named` has the value of the argument `flags`, if there is one, and `placed` those of the arguments after the first. A
+    value is None if it isn't written with names of `re`. `is_plain` says that the argument `repl`, or else the second
+    argument, is a literal without a backslash.
     """
 
     named: List[Optional[int]]
@@ -40,17 +41,17 @@ class Call(NamedTuple):
     is_plain: bool
 
     def flags(self, at: int) -> Optional[int]:
-        """Returns the flags of a call that takes them at a position: 0 where there are none, None where they aren't known."""
+        """Returns the flags of a call that takes them at a position: 0 if there are none, None if they aren't known."""
         given = self.named or self.placed[at - 1:at]
         return given[0] if given else 0
 
 
-# By line and by byte of the line, as Python counts them.
+# Calls by the line and the byte in it where their pattern begins, as `ast` counts them.
 Calls = Dict[Tuple[int, int], Call]
 
 
 def flags_of(node: ast.AST) -> Optional[int]:
-    """Returns the flags that an expression gives, or None where it isn't written with names of re."""
+    """Returns the flags that an expression gives, or None if it isn't written only with names of `re`."""
     value, left = 0, [node]
     while left:
         it = left.pop()
@@ -83,7 +84,7 @@ def _calls(tree: ast.AST) -> Iterator[Tuple[Tuple[int, int], Call]]:
 
 
 def parsed(text: str) -> Optional[Calls]:
-    """Returns the calls of a source, parsed in this process; None where the running Python can't read it."""
+    """Parses a source in this process, and returns its calls; None if the running Python can't parse it."""
     try:
         with warnings.catch_warnings():
             warnings.simplefilter("ignore")
@@ -93,12 +94,12 @@ def parsed(text: str) -> Optional[Calls]:
 
 
 def is_small(data: bytes) -> bool:
-    """Returns whether a source is small and flat, so that it can be parsed at once."""
+    """Returns whether a source is small and flat, so that it can be parsed in this process."""
     return len(data) <= LARGEST_AT_ONCE and len(SIGNS.findall(data)) <= MOST_SIGNS
 
 
 def calls_of(text: str) -> Optional[Calls]:
-    """Returns the calls of a source; None where the running Python can't read it, or its parser fails on it."""
+    """Returns the calls of a source; None if the running Python can't parse it, or its parser crashes or takes too long."""
     data = text.encode("utf-8", "surrogatepass")
     if is_small(data):
         return parsed(text)

@@ -1,4 +1,4 @@
-"""Run by `calls` in a process of its own: reads a source from standard input, and writes its calls as JSON."""
+"""Reads a source from standard input, and writes its calls as JSON; `calls` runs this in a process of its own."""
 from __future__ import annotations
 
 import sys

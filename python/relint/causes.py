@@ -1,4 +1,4 @@
-"""Why an entry has no class: the names of causes and limits that a report may have, with words and the page that helps."""
+"""The causes and limits for which an entry has no class, each with words and the page that helps."""
 from __future__ import annotations
 
 from typing import Dict, Optional, Tuple
@@ -49,13 +49,13 @@ LIMITS = {
 }
 MOST_PAIRS = 1000
 MORE_PAIRS = f"a higher --max-pairs, up to {MOST_PAIRS}, may decide it"
-# What the tools say of an entry that relint wasn't given the time for; no report of relint has it.
+# The kind of an entry that wasn't judged in time. Only the tools use it; no report of relint has it.
 TIME = "time"
 CAUSES_OF_TOOLS = {TIME: ("not judged in the time that --seconds and --total-seconds give", "relint-show --explain show")}
-# Names that reports of older versions have for causes.
+# Names of causes that only reports of older versions have.
 OLDER = ("word-boundary", "multiline-anchor")
 
 
 def words(name: str) -> Optional[Tuple[str, str]]:
-    """Returns what a cause means, and the page that helps; None for a name that has no words."""
+    """Returns what a cause means, and the page that helps; None if the cause isn't known."""
     return CAUSES.get(name) or CAUSES_OF_TOOLS.get(name)

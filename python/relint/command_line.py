@@ -1,6 +1,6 @@
-"""What the tools share on the command line: a mistake is told in one line with the nearest word, and each has --version.
+"""The parts of the command line that the tools share: one-line messages with the nearest word, and --version.
 
-`TOOLS` is the one list of them.
+`TOOLS` is the list of the tools.
 """
 from __future__ import annotations
 
@@ -14,7 +14,7 @@ from .output import whole
 from .program import REFUSED
 from .writing import visible
 
-# Each tool, with the function that runs it and what it is for.
+# Each tool, with the function that runs it and words for what it does.
 TOOLS: Dict[str, Sequence[str]] = {
     "relint-show": ("relint.show:main", "shows findings in a terminal, on a build server or as SARIF"),
     "relint-page": ("relint.page:main", "writes findings to one HTML page"),
@@ -31,7 +31,7 @@ MOST_NAMES = 2000
 
 
 def version() -> str:
-    """Returns the version: that of the clone's file VERSION, or of the package that is installed."""
+    """Returns the version: that in the file VERSION of the clone, or that of the installed package."""
     file = os.path.join(os.path.dirname(os.path.realpath(__file__)), "..", "..", "VERSION")
     try:
         with open(file, encoding="utf-8") as opened:
@@ -52,7 +52,7 @@ def nearest(word: str, known: Iterable[str]) -> str:
 
 
 def not_there(path: str) -> str:
-    """Returns the message on a path that isn't there, with the nearest name in its folder."""
+    """Returns the message for a path that isn't there, with the nearest name in its folder."""
     folder, name = os.path.split(path)
     try:
         names = os.listdir(folder or ".")[:MOST_NAMES]
@@ -70,14 +70,14 @@ class _Version(argparse.Action):
 
 
 class _Help(argparse._HelpAction):
-    """Prints what the tool takes, and ends."""
+    """Prints the help of the tool, and ends."""
 
     def __call__(self, parser: argparse.ArgumentParser, *_: Any, **__: Any) -> None:
         parser.exit(whole(parser.prog, parser.format_help()))
 
 
 class Parser(argparse.ArgumentParser):
-    """A parser of words that tells a mistake in one line, with the nearest word, and ends with status 2."""
+    """A parser of the command line that reports a mistake in one line, with the nearest word, and ends with status 2."""
 
     def __init__(self, prog: str, description: str, epilog: Optional[str] = None) -> None:
         super().__init__(prog=prog, description=description, epilog=epilog, allow_abbrev=False, add_help=False)
@@ -85,11 +85,11 @@ class Parser(argparse.ArgumentParser):
         self.add_argument("--version", action=_Version, nargs=0, help="show the version and exit")
 
     def options(self) -> List[str]:
-        """Returns the options that there are."""
+        """Returns the names of all options."""
         return [it for action in self._actions for it in action.option_strings]
 
     def error(self, message: str) -> NoReturn:
-        """Ends the program with status 2."""
+        """Prints the message in one line, and ends the program with status 2."""
         unknown = re.fullmatch("unrecognized arguments: (.*)", message, re.S)
         if unknown:
             word = next((it for it in unknown.group(1).split() if it.startswith("-")), unknown.group(1))
@@ -99,7 +99,7 @@ class Parser(argparse.ArgumentParser):
 
 
 def number(least: int, most: int) -> Callable[[str], int]:
-    """Returns a reader of a whole number in a range, for an option."""
+    """Returns the type of an option that takes a whole number in a range."""
     def read(text: str) -> int:
         if not NUMBER.fullmatch(text) or not least <= int(text) <= most:
             raise argparse.ArgumentTypeError(f"a number from {least} to {most} is wanted, not {text!r}")
@@ -108,7 +108,7 @@ def number(least: int, most: int) -> Callable[[str], int]:
 
 
 def one_of(*choices: str) -> Callable[[str], str]:
-    """Returns a reader of one of some words, for an option; its `choices` are the words."""
+    """Returns the type of an option that takes one of some words; its attribute `choices` has the words."""
     def read(text: str) -> str:
         if text not in choices:
             raise argparse.ArgumentTypeError(f"one of {', '.join(choices)} is wanted, not {text!r}{nearest(text, choices)}")

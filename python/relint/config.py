@@ -1,8 +1,8 @@
 """The configuration of the tools: the table `tool.relint` of the nearest pyproject.toml, or the file relint.toml.
 
-`load` finds and reads it. The same keys hold for every tool; a word of the command line wins over the file. What others wrote
-is checked before it is used: a file that is too large, no plain file, a link out of its folder, no TOML, or that holds an
-unknown key or a wrong value is refused with its name.
+`load` finds and reads it. All tools have the same keys, and the command line wins over the file. Since others may have written
+the file, it is checked before it is used: it is refused, with its name, if it is too large, isn't a regular file or TOML, is a
+link out of its folder, or has an unknown key or a wrong value.
 """
 from __future__ import annotations
 
@@ -20,7 +20,7 @@ from .writing import visible
 
 OWN_FILE, SHARED_FILE = "relint.toml", "pyproject.toml"
 MOST_BYTES = 1_048_576
-# What marks the top of a repository, above which nothing is looked for.
+# Names that mark the top folder of a repository. No configuration is looked for above it.
 TOPS = (".git", ".hg")
 MODES = ("search", "match", "fullmatch")
 TOOLS_PAIRS = MOST_PAIRS
@@ -29,7 +29,7 @@ LONGEST_SHOWN = 60
 
 
 class ConfigError(Exception):
-    """The configuration can't be used: the message names the file and says why, and `status` is the exit status."""
+    """Raised if the configuration can't be used: the message names the file and says why; `status` is the exit status."""
 
     def __init__(self, message: str, status: int = REFUSED) -> None:
         super().__init__(message)
@@ -38,7 +38,7 @@ class ConfigError(Exception):
 
 @dataclass(frozen=True)
 class Key:
-    """What a key may hold: in words, and as a test of a value that TOML gives."""
+    """The values that a key may have: in words, and as a test of a value from TOML. `choices` are the words to choose from."""
 
     wanted: str
     is_valid: Callable[[Any], bool]
@@ -61,11 +61,12 @@ def _is_text(value: Any) -> bool:
 
 
 def _is_seconds(value: Any) -> bool:
-    """Returns whether a value of TOML is a time limit: above 0, and at most MOST_NUMBER."""
+    """Whether a value of TOML is a time limit: above 0, and at most MOST_NUMBER."""
     return isinstance(value, (int, float)) and not isinstance(value, bool) and 0 < value <= MOST_NUMBER
 
 
 def _texts(least: int) -> Callable[[Any], bool]:
+    """A test for lists of at least that many texts that aren't empty."""
     return lambda it: isinstance(it, list) and len(it) >= least and all(map(_is_text, it))
 
 
@@ -86,7 +87,7 @@ KEYS: Dict[str, Key] = {
 
 @dataclass(frozen=True)
 class Config:
-    """What the tools go by. Paths and globs are relative to `folder`; `given` names the keys that `file` sets."""
+    """The configuration of the tools. Paths and globs are relative to `folder`; `given` has the keys that `file` sets."""
 
     file: Optional[str] = None
     folder: str = "."
@@ -106,7 +107,7 @@ class Config:
     warnings: Tuple[str, ...] = ()
 
     def from_here(self, path: str) -> str:
-        """Returns a path of the file as it is named from the current folder."""
+        """Returns a path of the configuration file as a path from the current folder."""
         if os.path.isabs(path) or self.file is None:
             return path
         whole_path = os.path.join(self.folder, path)
@@ -117,12 +118,15 @@ class Config:
         return [self.from_here(it) for it in self.paths]
 
 
-# The most dots of a line of TOML.
+# The largest number of dots in a line of TOML.
 MOST_DOTS = 1_000
 
 
 def read_toml(text: str) -> Dict[str, Any]:
-    """Returns the table that a TOML document is. Raises ValueError if it is none, and ConfigError without a reader of TOML."""
+    """Returns the table that a TOML text holds.
+
+    Raises ValueError if the text isn't TOML, and ConfigError if this Python has no reader of TOML.
+    """
     reader = None
     for name in ("tomllib", "tomli"):
         try:
@@ -132,7 +136,7 @@ def read_toml(text: str) -> Dict[str, Any]:
             continue
     if reader is None:
         raise ConfigError("to read TOML before Python 3.11, install the package tomli")
-    # (the reader takes the square of the parts of a key)
+    # (the time of the reader grows with the square of the number of parts of a key)
     if any(line.count(".") > MOST_DOTS for line in text.splitlines()):
         raise ValueError(f"a line has more than {MOST_DOTS:,} dots")
     try:
@@ -143,7 +147,7 @@ def read_toml(text: str) -> Dict[str, Any]:
 
 
 def check_table(table: Mapping[str, Any], keys: Mapping[str, Key], place: str) -> None:
-    """Checks that a table has only these keys, with values that they may hold. Raises ConfigError; `place` names the table."""
+    """Raises ConfigError if a table has a key that isn't among these, or a wrong value. `place` names the table."""
     for name, value in table.items():
         key = keys.get(name)
         if key is None:
@@ -160,7 +164,7 @@ def _shown(value: object) -> str:
 
 
 def common_folder(paths: Sequence[str]) -> str:
-    """Returns the folder, without links, that all paths lie in; the current one if there are none."""
+    """Returns the lowest folder, without links, in which all paths lie; the current folder if there are no paths."""
     folders = [os.path.realpath(it if os.path.isdir(it) else os.path.dirname(it) or ".") for it in paths]
     found = os.path.commonpath(folders) if folders else os.path.realpath(os.getcwd())
     while not os.path.isdir(found) and os.path.dirname(found) != found:
@@ -169,10 +173,10 @@ def common_folder(paths: Sequence[str]) -> str:
 
 
 def folders_above(start: str) -> List[str]:
-    """Returns the folders in which a configuration is looked for: the start, and those above it as far as they are trusted.
+    """Returns the folders in which a configuration is looked for: the start, and the trusted folders above it.
 
-    The last one is the top of a repository, the home folder, or the top of the file system. A folder that everybody may write
-    to, or that is on another file system, isn't among them, nor is one above it.
+    The search ends at the top of a repository, at the home folder, and at the top of the file system. It also ends below a
+    folder that everybody may write to or that is on another file system.
     """
     home = os.path.realpath(os.path.expanduser("~"))
     found = [start]
@@ -197,7 +201,10 @@ def _is_trusted(above: str, below: str) -> bool:
 
 
 def load(paths: Sequence[str], named: Optional[str] = None, without: bool = False) -> Config:
-    """Returns the configuration for paths: that of the file which is named, none, or the nearest. Raises ConfigError."""
+    """Returns the configuration of the file `named`, or the nearest one above the paths; the default if there is none.
+
+    With `without`, returns the default. Raises ConfigError if the file can't be used.
+    """
     if without:
         return Config()
     if named is not None:
@@ -210,6 +217,7 @@ def load(paths: Sequence[str], named: Optional[str] = None, without: bool = Fals
 
 
 def _in_folder(folder: str) -> Optional[Config]:
+    """The configuration in a folder, or None if it has none. relint.toml wins over pyproject.toml. Raises ConfigError."""
     own, shared = os.path.join(folder, OWN_FILE), os.path.join(folder, SHARED_FILE)
     table = _table_of(shared, is_own=False, is_named=False) if os.path.lexists(shared) else None
     if os.path.lexists(own):
@@ -219,7 +227,7 @@ def _in_folder(folder: str) -> Optional[Config]:
 
 
 def _table_of(file: str, is_own: bool, is_named: bool) -> Optional[Dict[str, Any]]:
-    """The table of the keys in a file; None if a shared file has none."""
+    """The table of keys in a file; None if a shared file that wasn't named has no such table. Raises ConfigError."""
     name = _from_here(file)
     data = _bytes_of(file, name, is_named)
     if not is_own and not is_named and b"relint" not in data:
@@ -242,7 +250,10 @@ def _table_of(file: str, is_own: bool, is_named: bool) -> Optional[Dict[str, Any
 
 
 def _bytes_of(file: str, name: str, is_named: bool) -> bytes:
-    """The bytes of a plain file that isn't too large, and that no link leads out of its folder, unless the user named it."""
+    """The bytes of a file. Raises ConfigError if it can't be read or is too large.
+
+    A file that the user didn't name is also refused if it is a link out of its folder.
+    """
     folder = os.path.realpath(os.path.dirname(file) or ".")
     real = os.path.realpath(file)
     if not is_named and os.path.dirname(real) != folder:
@@ -254,6 +265,7 @@ def _bytes_of(file: str, name: str, is_named: bool) -> bytes:
 
 
 def _config(file: str, table: Optional[Mapping[str, Any]], warnings: Tuple[str, ...] = ()) -> Config:
+    """The configuration that the table of a file gives. Raises ConfigError if the table is wrong."""
     table = table or {}
     name = _from_here(file)
     is_shared = os.path.basename(file) == SHARED_FILE
@@ -269,13 +281,13 @@ def _config(file: str, table: Optional[Mapping[str, Any]], warnings: Tuple[str, 
 
 
 def check_tiers(max_degree: int, warn_degree: Optional[int]) -> None:
-    """Checks that degrees which are only warned of aren't findings. Raises ConfigError."""
+    """Raises ConfigError if `warn_degree` isn't below `max_degree`, so that it would never warn."""
     if warn_degree is not None and warn_degree >= max_degree:
         raise ConfigError(f"warn-degree = {warn_degree} must be below max-degree = {max_degree}: what is above that fails")
 
 
 def _from_here(file: str) -> str:
-    """The name of a file as it is said: from the current folder, if it lies below that."""
+    """The name of a file for messages: relative to the current folder if the file lies below it."""
     try:
         relative = os.path.relpath(os.path.abspath(file), os.getcwd())
     except (OSError, ValueError):
@@ -284,7 +296,7 @@ def _from_here(file: str) -> str:
 
 
 def shown(config: Config) -> List[str]:
-    """Returns the configuration as lines of TOML, each with where its value comes from."""
+    """Returns the configuration as lines of TOML; a comment says where each value comes from."""
     name = _from_here(config.file) if config.file else ""
     lines = [f"# {name}" if name else "# no configuration file"]
     for key in KEYS:

@@ -1,7 +1,7 @@
-"""relint-confirm: tries the findings of a report on the Python that runs it.
+"""relint-confirm: tries the findings of a report with the running Python.
 
-A class of relint is a statement on its defined machine. This is an experiment: it says for each finding at which length of
-the family's texts this Python takes over a second, or that it didn't.
+A class that relint gives is a statement about a defined machine. This tool is an experiment: for each finding it says how long
+a text of the family has to be for this Python to take over a second, or that this wasn't seen.
 """
 from __future__ import annotations
 
@@ -37,7 +37,7 @@ from .writing import WriteError, line, visible
 CONFIRMED, NOT_SEEN, NOT_TRIED = "confirmed", "not seen", "not tried"
 TRIAL = str(Path(__file__).with_name("trial.py"))
 NAMES_AT_ONCE = 100_000
-# A trial that takes so many times its processor time by the clock is ended.
+# A trial is ended after PATIENCE times its seconds of processor time have passed by the clock.
 PATIENCE = 10
 SHORT_CUTS = (
     "CPython may take a short cut here that relint's machine doesn't have, as merging (a|b) to [ab],"
@@ -48,7 +48,7 @@ CHANGED = "the source changed since the report, or the report was made with othe
 
 @dataclass(frozen=True)
 class Limits:
-    """What a trial may take: seconds of processor time for one match, characters of a text, bytes of memory."""
+    """The limits of a trial: seconds of processor time for one match, characters of a text, bytes of memory."""
 
     seconds: float
     longest: int
@@ -57,9 +57,10 @@ class Limits:
 
 @dataclass(frozen=True)
 class Outcome:
-    """What came of a finding. `length` and `seconds` are those of the longest text whose match was begun; `why` says more.
+    """The result for a finding; `why` explains it if need be.
 
-    `times` has the length of each text whose match came to its end, with the seconds that it took.
+    `length` is that of the longest text that was tried, which is text `k` of the family; `seconds` is the time that was
+    measured. `times` has the length of each text whose match ended, with the seconds that it took.
     """
 
     result: str
@@ -71,7 +72,7 @@ class Outcome:
 
 
 class Job(NamedTuple):
-    """A finding as the code uses its pattern, with its mode and what is behind it in the source, or why that isn't known."""
+    """A finding to try: its entry as the code uses the pattern, the pattern, and the mode; or why it can't be tried."""
 
     entry: Entry
     site: Optional[Site]
@@ -80,7 +81,7 @@ class Job(NamedTuple):
 
 
 class Run(NamedTuple):
-    """What a trial wrote, and how it ended."""
+    """The lines that a trial wrote, and how it ended."""
 
     status: int
     lines: List[str]
@@ -88,7 +89,7 @@ class Run(NamedTuple):
 
 
 def jobs_of(given: gather.Gathered, findings: Sequence[Entry], changed: Set[Entry], sources: Sources) -> Iterator[Job]:
-    """Yields a job for each of these findings, in order: the call that the code makes, where that is known."""
+    """Yields a job for each of these findings, in order. The job is about the call that the code makes, if that is known."""
     used = uses_of(given, findings, sources)
     for entry in findings:
         source = sources.get(entry.path)
@@ -103,6 +104,7 @@ def jobs_of(given: gather.Gathered, findings: Sequence[Entry], changed: Set[Entr
 
 
 def _job(given: gather.Gathered, entry: Entry, source: Source, used: Optional[AsUsed]) -> Job:
+    """The job for a finding of relint whose source could be read."""
     verdict = entry.verdict()
     if used is not None and verdict is not None and used.is_cleared(given.max_degree):
         return Job(entry, None, f"{UNUSED}: {used.words(verdict, given.mode(entry))}")
@@ -116,7 +118,7 @@ def _job(given: gather.Gathered, entry: Entry, source: Source, used: Optional[As
 
 
 def changed_since(findings: Sequence[Entry], judge: Judge) -> Set[Entry]:
-    """Returns the findings that relint doesn't give again for the sources as they are now."""
+    """Returns the findings that relint no longer gives, since their sources changed."""
     again: Set[Tuple[Any, ...]] = set()
     for paths in _groups(sorted({it.path for it in findings if os.path.isfile(it.path)})):
         for answer in judge.answers(paths, paths):
@@ -129,7 +131,7 @@ def _key(entry: Entry) -> Tuple[Any, ...]:
 
 
 def _groups(paths: Iterable[str]) -> Iterator[List[str]]:
-    """Yields the paths in groups, each short enough for the words of one command."""
+    """Yields the paths in groups; each is short enough for one command line."""
     group: List[str] = []
     room = 0
     for path in paths:
@@ -143,17 +145,17 @@ def _groups(paths: Iterable[str]) -> Iterator[List[str]]:
 
 
 class Trials:
-    """Tries findings, each in a process of its own; `stop` ends all that go on, and none begins after it."""
+    """Tries findings, each in a process of its own. Threads may share it."""
 
     def __init__(self, limits: Limits, until: float = math.inf) -> None:
-        """No trial begins after `until`, a value of `time.monotonic`."""
+        """Takes the limits of each trial. No trial begins after `until`, a time of `time.monotonic`."""
         self.limits, self._until = limits, until
         self._lock = threading.Lock()
         self._running: Set["subprocess.Popen[bytes]"] = set()
         self._stopped = False
 
     def outcome(self, job: Job) -> Outcome:
-        """Tries a finding."""
+        """Tries a finding, and returns the result."""
         if job.site is None or job.entry.family is None:
             return Outcome(NOT_TRIED, why=job.why)
         if time.monotonic() > self._until:
@@ -161,14 +163,14 @@ class Trials:
         return _outcome(self.run(_task(job.entry, job.site, job.mode, self.limits)), self.limits)
 
     def stop(self) -> None:
-        """Ends all trials."""
+        """Ends all trials that are running; none begins after this."""
         with self._lock:
             self._stopped = True
             for process in self._running:
                 process.kill()
 
     def run(self, task: Dict[str, Any]) -> Run:
-        """Does a task in a process of its own."""
+        """Does a task in a process of its own, and returns what it wrote."""
         words = [*python_words(), TRIAL]
         with self._lock:
             if self._stopped:
@@ -190,6 +192,7 @@ class Trials:
 
 
 def _task(entry: Entry, site: Site, mode: str, limits: Limits) -> Dict[str, Any]:
+    """The task for the process of a trial, as values for JSON."""
     family = entry.family
     assert family is not None
     return {
@@ -211,6 +214,7 @@ def _as_str(text: Text) -> str:
 
 
 def _outcome(ran: Run, limits: Limits) -> Outcome:
+    """The result that the lines and the end of a trial tell."""
     if ran.timed_out:
         return Outcome(NOT_TRIED, why="the machine was too busy to end the trial")
     k, length, seconds, matching = 0, 0, 0.0, False
@@ -237,7 +241,7 @@ def _outcome(ran: Run, limits: Limits) -> Outcome:
 
 
 def line_of(entry: Entry, outcome: Outcome, limits: Limits) -> str:
-    """Returns the line that says what came of a finding."""
+    """Returns the line that tells the result for a finding."""
     place = f"{entry.place.line}:{entry.place.column}: " if entry.place else ""
     start = f"{entry.path}:{place}{entry.call}: {entry.outcome()}: {outcome.result}"
     if outcome.result == CONFIRMED:
@@ -248,14 +252,14 @@ def line_of(entry: Entry, outcome: Outcome, limits: Limits) -> str:
 
 
 def sum_line(outcomes: Sequence[Outcome]) -> str:
-    """Returns the last line."""
+    """Returns the last line, which counts the results."""
     counts = {it: sum(outcome.result == it for outcome in outcomes) for it in (CONFIRMED, NOT_SEEN, NOT_TRIED)}
     said = [f"{counts[it]} {it}" for it in (CONFIRMED, NOT_SEEN, NOT_TRIED) if counts[it] or it != NOT_TRIED]
     return f"{len(outcomes)} finding{'' if len(outcomes) == 1 else 's'}: {', '.join(said)}"
 
 
 def as_json(entries: Sequence[Entry], outcomes: Sequence[Outcome], limits: Limits) -> str:
-    """Returns all outcomes as one line of JSON."""
+    """Returns all results as one line of JSON."""
     found = [_json_of(entry, outcome) for entry, outcome in zip(entries, outcomes)]
     whole = {
         "confirmed": sum(it.result == CONFIRMED for it in outcomes),
@@ -279,7 +283,7 @@ def _json_of(entry: Entry, outcome: Outcome) -> Dict[str, Any]:
 
 
 def parser() -> Parser:
-    """Returns the reader of the tool's words."""
+    """Returns the parser of the tool's command line."""
     found = Parser("relint-confirm",
                    "Tries the findings of a report of relint on the Python that runs it, each in a process of its own.",
                    "The exit status is 0 if all findings were tried; otherwise 2 to 6.")
@@ -313,7 +317,7 @@ def _count(text: str) -> int:
 
 
 class Stopped(BaseException):
-    """A signal asked for the end; its number is the argument."""
+    """Raised if a signal asks the tool to end; its number is the argument."""
 
 
 def _stop(number: int, _: Any) -> None:
@@ -321,7 +325,7 @@ def _stop(number: int, _: Any) -> None:
 
 
 def confirm(words: argparse.Namespace) -> int:
-    """Tries the findings, writes what came of them, and returns the status."""
+    """Tries the findings, writes the results, and returns the exit status. Raises GatherError and ProgramError."""
     until = time.monotonic() + (words.total_seconds or judging.TOTAL_SECONDS)
     given = gather.gathered(words)
     gather.tell("relint-confirm", given)

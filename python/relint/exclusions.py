@@ -1,7 +1,8 @@
-"""What a walk over folders leaves out: folders of a default list, and what globs name.
+"""Decides what a walk over folders leaves out: folders of a default list, and what globs name.
 
-The default list is for what lies below a folder that was named: a folder that you name yourself is looked at. A glob without a
-`/` is matched against each name of a path, one with a `/` against the path and each folder above it; `*` matches `/` too.
+The default list counts only below a folder that was named; a folder that the user names is looked at in any case. A glob
+without a `/` is matched against each name in a path. A glob with a `/` is matched against the path and each folder above it;
+`*` matches `/` too.
 """
 from __future__ import annotations
 
@@ -22,31 +23,31 @@ ENVIRONMENT_MARK = "pyvenv.cfg"
 
 
 class Globs:
-    """Globs that are relative to a folder, and which of them matched something."""
+    """A list of globs that are relative to a folder. It remembers which of them matched something."""
 
     def __init__(self, globs: Sequence[str], folder: str) -> None:
-        """`folder` is an absolute path without links."""
+        """Takes the globs, and the absolute path of the folder without links."""
         self._folder = folder
         self._globs = {it: self._normal(it) for it in globs}
         self._relative: Dict[str, str] = {}
         self._used: Set[str] = set()
 
     def _normal(self, glob: str) -> Tuple[str, bool]:
-        """The glob as it is matched, and whether that is against whole paths."""
+        """The glob in the form that is matched, and whether it is matched against whole paths."""
         text = os.path.normpath(glob)
         if os.path.isabs(text):
             text = os.path.relpath(text, self._folder)
         return text, "/" in glob.rstrip("/")
 
     def matches(self, path: str, every_level: bool = False) -> bool:
-        """Returns whether a glob names a path, or with `every_level` a folder above it; a link is taken as it is named."""
+        """Returns whether a glob matches a path or, with `every_level`, a folder above it. A final link isn't followed."""
         if not self._globs:
             return False
         names = self._from_folder(path).split("/")
         levels = ["/".join(names[:it]) for it in range(1, len(names) + 1) if names[it - 1] != ".."]
         if not every_level:
             levels = levels[-1:]
-        # (each is tried, so that all that match count as used)
+        # (all globs are tried, so that each one that matches counts as used)
         return any([self._matches_one(said, *it, levels) for said, it in self._globs.items()])
 
     def _matches_one(self, said: str, text: str, is_path: bool, levels: List[str]) -> bool:
@@ -70,23 +71,29 @@ class Globs:
 
 
 class Exclusions:
-    """What is left out in a run; `folders` and `files` count it."""
+    """Decides what a run leaves out; `folders` and `files` count what was left out."""
 
     def __init__(self, config: Config, given: Sequence[str] = (), default: bool = True) -> None:
-        """`given` are the globs of the command line, which are relative to the current folder."""
+        """Takes the configuration, the globs of the command line, and whether the default list counts.
+
+        The globs of the command line are relative to the current folder.
+        """
         self._all = [Globs(config.exclude, config.folder if config.file else os.path.realpath(".")),
                      Globs(given, os.path.realpath("."))]
         self._default = frozenset(DEFAULT) if default else frozenset()
         self.folders = self.files = 0
 
     def takes_named(self, path: str) -> bool:
-        """Returns whether a path is looked at that was named, or that another tool listed."""
+        """Returns whether a path that was named, or listed by another tool, is looked at; counts it if it isn't."""
         is_left_out = self._globbed(path, True)
         self._count(is_left_out, os.path.isdir(path))
         return not is_left_out
 
     def takes_folder(self, path: str, names: Optional[Sequence[str]] = None) -> bool:
-        """Returns whether a folder below a named one is entered; `names` are those of its children, if they are known."""
+        """Returns whether a folder below a named one is entered; counts it if it isn't.
+
+        `names` are the names of its children, if they are known.
+        """
         name = os.path.basename(path)
         has_mark = ENVIRONMENT_MARK in names if names is not None else os.path.isfile(os.path.join(path, ENVIRONMENT_MARK))
         is_left_out = (bool(self._default) and (name in self._default or has_mark)) or self._globbed(path, False)
@@ -94,7 +101,7 @@ class Exclusions:
         return not is_left_out
 
     def takes_file(self, path: str) -> bool:
-        """Returns whether a file below a named folder is looked at."""
+        """Returns whether a file below a named folder is looked at; counts it if it isn't."""
         is_left_out = self._globbed(path, False)
         self._count(is_left_out, False)
         return not is_left_out
@@ -109,5 +116,5 @@ class Exclusions:
             self.files += 1
 
     def unused(self, with_config: bool = True) -> List[str]:
-        """Returns the globs that matched nothing, those of the configuration first, if they are asked for."""
+        """Returns the globs that matched nothing; with `with_config`, those of the configuration come first."""
         return [it for globs in self._all[0 if with_config else 1:] for it in globs.unused()]

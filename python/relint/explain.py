@@ -1,6 +1,6 @@
-"""The pages of the documentation, wherever relint is installed, and what they say of a rule.
+"""Finds the pages of the documentation, and what they say about a rule.
 
-In the wheel the pages lie in the package, in the folder `docs`; in a clone they are those of the clone.
+In the wheel, the pages are in the folder `docs` of the package; in a clone, they are in its own folder `docs`.
 """
 from __future__ import annotations
 
@@ -19,11 +19,11 @@ HERE = os.path.dirname(os.path.realpath(__file__))
 
 
 class NotExplained(Exception):
-    """There is no such rule, cause or page; the message says what there is."""
+    """Raised if there is no such rule, cause or page; the message says what there is."""
 
 
 def pages() -> Dict[str, str]:
-    """Returns the files of the pages by their names in small letters."""
+    """Returns the paths of the pages by their names in lower case."""
     for folder in (os.path.join(HERE, "docs"), os.path.join(HERE, "..", "..", "docs")):
         if os.path.isfile(os.path.join(folder, "RULES.md")):
             found = sorted(it for it in os.listdir(folder) if it.endswith(".md"))
@@ -41,13 +41,13 @@ def page(name: str) -> str:
 
 
 def sections(text: str) -> List[Tuple[str, str]]:
-    """Returns the sections of a page, each its heading and the text below it."""
+    """Returns the heading and the text of each section of a page."""
     parts = re.split(r"^## (.*)$", text, flags=re.M)
     return [(heading, body.strip("\n")) for heading, body in zip(parts[1::2], parts[2::2])]
 
 
 def rule(number: int) -> Tuple[str, str]:
-    """Returns the title of a rule and what the page of rules says of it. Raises NotExplained for a number that has no rule."""
+    """Returns the title of a rule, and the text about it in the page of rules. Raises NotExplained if there is no such one."""
     for heading, body in sections(page(RULES_PAGE)):
         numbers = rules.range_of(heading)
         if numbers and numbers[0] <= number <= numbers[1]:
@@ -56,7 +56,7 @@ def rule(number: int) -> Tuple[str, str]:
 
 
 def explained(topic: str) -> str:
-    """Returns what there is to say of a rule's code, a cause, a limit or a page. Raises NotExplained."""
+    """Returns the text about a rule's code, a cause, a limit or a page. Raises NotExplained if there is none."""
     asked = topic.strip().lower()
     coded = CODE.fullmatch(asked)
     if coded:

@@ -1,4 +1,4 @@
-"""What can be told of a finding: its source, its pattern, how its steps grow, the part at fault, and a cure."""
+"""Collects what is known of a finding: its source, its pattern, how its steps grow, the parts at fault, and offers."""
 from __future__ import annotations
 
 import importlib
@@ -19,22 +19,22 @@ from .used.report import as_used
 from .used.run import Run
 from .writing import visible
 
-if TYPE_CHECKING:  # (relint.mend takes this module)
+if TYPE_CHECKING:  # (relint.mend imports this module)
     from .gather import Gathered
     from .mend.offers import Offer
 
 MOST_SOURCES = 16
 MOST_AT_ONCE = 4
-# No cure is looked for once so many seconds went into cures.
+# No search for a cure begins once this many seconds have passed.
 SECONDS_OF_CURES = 600
 
 
 @dataclass(frozen=True)
 class Finding:
-    """An entry that is a finding, with what is known of it; what isn't known is None or empty.
+    """An entry that is a finding, with what is known of it; a field that isn't known is None or empty.
 
-    `mode` is that of its costliest use, where the uses are known, else the one in which relint judged it. `offers` are
-    patterns to put in its place: fixes, and advice.
+    `mode` is the mode of the costliest use if the uses are known, otherwise the mode in which relint judged the entry.
+    `offers` are patterns to put in place of the entry's pattern: fixes, and advice.
     """
 
     entry: Entry
@@ -50,15 +50,18 @@ class Finding:
 
     @property
     def judged(self) -> Entry:
-        """The entry as the pattern is used, where that is known, else the one of the report."""
+        """The entry for the costliest use of the pattern if that is known, otherwise the entry of the report."""
         return self.used.entry or self.entry if self.used else self.entry
 
     def is_cleared(self, max_degree: int) -> bool:
-        """Returns whether no use of the pattern is a finding."""
+        """Returns whether the uses are known and the class under each of them has at most this degree."""
         return self.used is not None and self.used.is_cleared(max_degree)
 
     def used_words(self, whole_mode: str) -> str:
-        """Returns the class in the mode of the report and that of the uses, where they aren't the same; else ""."""
+        """Returns words for the class in the mode of the report and the class under the uses.
+
+        Returns "" if the classes are the same or unknown, or if one of the uses has the mode of the report.
+        """
         verdict = self.entry.verdict()
         if self.used is None or verdict is None or whole_mode in self.used.entries or self.used.verdict == verdict:
             return ""
@@ -69,7 +72,10 @@ class Finding:
         return self.entry.place or Place(1, 1)
 
     def words(self, steps_a_second: Optional[int] = None) -> str:
-        """Returns the class in plain words, with figures where relint gave them, and the seconds at a rate that is known."""
+        """Returns the class in plain words, with figures if the growth is known.
+
+        With `steps_a_second`, the words also say how many seconds the steps take on this machine.
+        """
         verdict, beyond = self.judged.verdict(), self.entry.beyond
         if beyond is not None and beyond.seen is not None:
             return beyond.seen_words()
@@ -90,20 +96,23 @@ class Finding:
         return f"{words}; {more} more make that {plain.times(self.growth.rate)} as much"
 
     def code(self) -> Optional[str]:
-        """Returns Python code in one line that shows the slow match, or None where the pattern isn't known."""
+        """Returns one line of Python code that runs the slow match, or None if the pattern or its growth isn't known."""
         family, most = self.judged.family, self._k_to_show()
         if self.site is None or self.site.flags is None or family is None or most is None:
             return None
         return plain.python_code(self.site.value, self.site.flags, self.mode, family, most)
 
     def _k_to_show(self) -> Optional[int]:
-        """The number of the text that shows the hang; None where no growth is known."""
+        """The number k of the text that shows the hang, or None if no growth is known."""
         if self.entry.beyond is not None and self.entry.beyond.seen is not None:
             return self.entry.beyond.seen.k
         return self.growth.k_to_show if self.growth else None
 
     def snippet(self) -> Optional[str]:
-        """Returns Python code that prints the time of longer and longer texts, or None where the pattern isn't known."""
+        """Returns Python code that prints how long the match takes on longer and longer texts.
+
+        Returns None if the pattern or its growth isn't known.
+        """
         family, most = self.judged.family, self._k_to_show()
         if self.site is None or self.site.flags is None or family is None or most is None:
             return None
@@ -116,17 +125,17 @@ class Finding:
         return plain.snippet(self.site.value, self.site.flags, self.mode, family, counts)
 
     def part(self, span: Tuple[int, int]) -> str:
-        """Returns a part of the pattern as it stands there."""
+        """Returns the text of the pattern between two offsets; a bytes pattern is decoded as Latin-1."""
         value = self.site.value if self.site else ""
         text = value.decode("latin-1") if isinstance(value, bytes) else value
         return text[span[0]:span[1]]
 
     def parts_at_fault(self) -> Tuple[str, ...]:
-        """Returns the parts at fault as they stand in the pattern."""
+        """Returns the texts of the parts at fault, each once."""
         return tuple(dict.fromkeys(map(self.part, self.at_fault)))
 
     def fault_words(self) -> str:
-        """Returns which loops share a text and what follows, in one sentence; "" where that isn't known."""
+        """Returns a sentence that says which loops match the same text and what follows from it; "" if that isn't known."""
         family = self.judged.family
         if not self.at_fault or self.site is None or family is None:
             return ""
@@ -138,7 +147,7 @@ class Finding:
         return plain.polynomial_fault(loops, text, self.shared is not None, self.mode == "search")
 
     def code_spans(self) -> Tuple[Tuple[int, int], ...]:
-        """Returns what gives the pattern in the source, as offsets: its literals, or what relint-wide names."""
+        """Returns the spans in the source's text that give the pattern: its literals, or the span that relint-wide names."""
         if self.site is None:
             return ()
         if self.site.literals:
@@ -150,7 +159,10 @@ class Finding:
         return ((start, end),) if start < end <= len(self.source.text) else ()
 
     def spans_at_fault(self) -> Tuple[Tuple[int, int], ...]:
-        """Returns the parts at fault as offsets in the source's text, without the quotes of literals that are joined."""
+        """Returns the spans of the parts at fault in the source's text.
+
+        A part that goes over several joined literals has a span for each, without their quotes.
+        """
         offsets = code_offsets(self.site) if self.site else None
         if self.site is None or offsets is None:
             return ()
@@ -164,15 +176,18 @@ class Finding:
 
 
 class Sources:
-    """The sources that entries name. The last ones are kept, as the entries of a source follow one another."""
+    """Reads the sources that entries name, and keeps the last MOST_SOURCES of them.
+
+    That is enough because the entries of one source follow one another.
+    """
 
     def __init__(self, folders: Sequence[str] = HERE) -> None:
-        """Takes the folders that the sources lie in; what lies elsewhere isn't opened."""
+        """Takes the folders that the sources lie in; a file outside of them isn't opened."""
         self._folders = folders
         self._known: Dict[str, Optional[Source]] = {}
 
     def get(self, path: str) -> Optional[Source]:
-        """Returns the source at a path, or None where it can't be read."""
+        """Returns the source at a path, or None if it can't be read."""
         if path not in self._known:
             if len(self._known) >= MOST_SOURCES:
                 del self._known[next(iter(self._known))]
@@ -180,7 +195,7 @@ class Sources:
         return self._known[path]
 
     def data(self, path: str) -> Optional[bytes]:
-        """Returns the bytes of a source, or None where it can't be read or lies elsewhere. They aren't kept."""
+        """Returns the bytes of a source, or None if it can't be read or lies elsewhere. They aren't kept."""
         try:
             return read_below(path, self._folders)
         except OpenError:
@@ -195,7 +210,7 @@ class Sources:
 
 
 def site_of(sources: Sources, entry: Entry) -> Tuple[Optional[Source], Optional[Site]]:
-    """Returns the source of an entry and the pattern in it, as far as they are there."""
+    """Returns the source of an entry and the pattern in it; what can't be read or found is None."""
     source = sources.get(entry.path)
     if entry.beyond is not None:
         return source, Site((), entry.beyond.pattern, entry.beyond.flags)
@@ -208,16 +223,18 @@ def site_of(sources: Sources, entry: Entry) -> Tuple[Optional[Source], Optional[
 
 
 def worst_first(entry: Entry) -> Tuple[bool, int]:
-    """Returns what entries are sorted by so that the worst class comes first."""
+    """Returns a sort key for entries: the worst class comes first."""
     return entry.kind != "exponential", -(entry.degree or 0)
 
 
 def findings(
     given: "Gathered", entries: Sequence[Entry], sources: Sources, mend: bool = False, most: Optional[int] = None,
 ) -> Tuple[Finding, ...]:
-    """Returns what can be told of some findings of a report, in order: of `most` at most, the worst, more than the class.
+    """Returns a finding for each entry, in the order of the entries.
 
-    As many of those that relint-wide found are told in full too. Several are asked for at the same time.
+    Only for the worst ones are the growth, the parts at fault and the offers looked for, several findings at a time: for the
+    `most` worst of relint and the `most` worst of relint-wide, or for all if `most` is None. With `mend`, cures are searched
+    for too, until SECONDS_OF_CURES have passed.
     """
     found = [(it, *site_of(sources, it)) for it in entries]
     used = uses_of(given, entries, sources)
@@ -236,9 +253,9 @@ def findings(
 
 
 def uses_of(given: "Gathered", entries: Sequence[Entry], sources: Sources) -> Dict[Entry, AsUsed]:
-    """Returns how the patterns of some entries are used, with their classes so; those that aren't followed are missing.
+    """Returns how the patterns of some entries are used, and their classes under these uses, as far as the uses are known.
 
-    What relint-wide found isn't followed.
+    Entries of relint-wide are left out.
     """
     entries = [it for it in entries if it.beyond is None]
     run = Run([*(it.path for it in entries), *(given.selection.files if given.selection else ())], sources.data)
@@ -247,9 +264,9 @@ def uses_of(given: "Gathered", entries: Sequence[Entry], sources: Sources) -> Di
 
 @dataclass(frozen=True)
 class Looked:
-    """The findings of a report as the code uses their patterns: those that a use reaches, and those that none does.
+    """The findings of a report, divided into those that the code's uses reach and those that no use reaches.
 
-    `status` is the exit status for them: that of relint, except that only findings which a use reaches count.
+    `status` is the exit status of relint, except that findings which no use reaches don't count unless the run is strict.
     """
 
     reached: Tuple[Finding, ...]
@@ -257,19 +274,20 @@ class Looked:
     status: int
 
     def every(self) -> Tuple[Finding, ...]:
-        """Returns all of them."""
+        """Returns all findings: first those that are reached, then those that aren't."""
         return (*self.reached, *self.unused)
 
     def as_used(self, entries: Sequence[Entry]) -> Tuple[Entry, ...]:
-        """Returns the entries of the report, each finding with its class as the pattern is used."""
+        """Returns the entries, with the entry of each finding replaced by the entry for its costliest use."""
         own = {id(it.entry): it.judged for it in self.every()}
         return tuple(own.get(id(it), it) for it in entries)
 
 
 def looked_at(given: "Gathered", sources: Sources, mend: bool = False, most: Optional[int] = None) -> Looked:
-    """Returns the findings of a report as the code uses their patterns, and what is only warned of among those reached.
+    """Returns the findings of a report, divided into those that the code's uses reach and those that no use reaches.
 
-    Under `strict` those count too that no use reaches. Raises ProgramError where relint can't be asked.
+    An entry that is only warned of counts as reached. Under `strict`, findings that no use reaches fail too. Raises
+    ProgramError if relint can't be asked.
     """
     hidden = hidden_findings(given, sources)
     shown = {id(it) for it in (*given.findings, *given.warned, *hidden)}
@@ -282,6 +300,7 @@ def looked_at(given: "Gathered", sources: Sources, mend: bool = False, most: Opt
 
 
 def _status(given: "Gathered", is_reached: bool, is_unused: bool) -> int:
+    """The exit status if there are findings that a use reaches, and findings that none reaches."""
     if given.status not in (0, program.FINDING):
         return given.status
     others = any(it.kind not in ("degree", "exponential") for it in given.report.entries)
@@ -289,7 +308,7 @@ def _status(given: "Gathered", is_reached: bool, is_unused: bool) -> int:
 
 
 def hidden_findings(given: "Gathered", sources: Sources) -> Tuple[Entry, ...]:
-    """Returns the entries that are no findings in the mode of the report, and are as they are used: by `fullmatch`."""
+    """Returns the entries that are no findings in the mode of the report, but are findings because `fullmatch` uses them."""
     compiled = [it for it in given.report.entries
                 if it.call == "compile" and it.beyond is None and it.is_judged() and not it.is_finding(given.max_degree)]
     suspect = [it for it in compiled if _is_matched_whole(sources.get(it.path))]
@@ -298,18 +317,18 @@ def hidden_findings(given: "Gathered", sources: Sources) -> Tuple[Entry, ...]:
 
 
 def _is_matched_whole(source: Optional[Source]) -> bool:
-    """Whether a source may match a pattern as a whole: only so can a use cost more than a search."""
+    """Whether a source mentions `fullmatch`, the only use that can cost more than a search."""
     return source is not None and "fullmatch" in source.text
 
 
 def _first(given: "Gathered", one: Tuple[Entry, Optional[Source], Optional[Site]], used: Optional[AsUsed]
            ) -> Tuple[Entry, str, Optional[Source], Optional[Site]]:
-    """The entry, its mode, its source and its pattern."""
+    """The first four fields of a finding: the entry, its mode, its source and its pattern."""
     return one[0], used.mode if used else given.mode(one[0]), one[1], one[2]
 
 
 def _known(found: Finding, meter: Meter, mend: bool) -> Finding:
-    """The finding with its growth, its parts at fault, and what is offered."""
+    """The finding with its growth, its parts at fault and its offers; unchanged if relint can't be asked about its pattern."""
     entry, site, verdict = found.judged, found.site, found.judged.verdict()
     if site is None or site.flags is None or entry.family is None or verdict is None:
         return found
@@ -327,9 +346,9 @@ def _known(found: Finding, meter: Meter, mend: bool) -> Finding:
 
 
 def _offers(found: Finding, mend: bool) -> Tuple["Offer", ...]:
-    """What is offered for a finding: relint's suggestion, and with `mend` the cures that a search finds.
+    """The offers for a finding: relint's suggestion and, with `mend`, the cures that a search finds.
 
-    Nothing is offered where no literal of the source is the pattern.
+    There are none for a finding of relint-wide, because no literal of the source holds its pattern. Raises ProgramError.
     """
     if found.entry.beyond is not None:
         return ()
@@ -339,5 +358,5 @@ def _offers(found: Finding, mend: bool) -> Tuple["Offer", ...]:
         return made
     except program.ProgramError:
         raise
-    except Exception:  # (whatever a search for cures fails on, the finding is still shown)
+    except Exception:  # (the finding is shown even if the search for cures fails)
         return ()

@@ -1,4 +1,4 @@
-"""The flags of `re`, told once: their letters, names and values, and how they are written."""
+"""The flags of `re`: their letters, names and values, and how they are written."""
 from __future__ import annotations
 
 from typing import Dict
@@ -14,23 +14,23 @@ NAMES: Dict[str, int] = {
 }
 # All bits that are a flag of `re` in some version of Python.
 EVERY = 0x1FF
-# The flags that change what relint says of a pattern: UNICODE is what a text has anyway, and LOCALE is no fixed meaning.
+# The flags that relint takes into account. UNICODE holds for texts anyway, and LOCALE has no fixed meaning.
 JUDGED = "AIMSX"
-# The letters of a group such as (?i:..), and those of them that may stand behind its minus, for a class of a pattern.
+# The letters of flags in a group such as (?i:..), and those that may come after a minus in it, for a class in a pattern.
 INLINE, TURNED_OFF = "aiLmsux", "imsx"
 
 
 def letters(flags: int, among: str = JUDGED) -> str:
-    """Returns the letters of the flags that are set, of some of them."""
+    """Returns the letters of the flags that are set, out of the letters in `among`."""
     return "".join(it for it in among if flags & VALUES[it])
 
 
 def front(flags: int) -> str:
-    """Returns the group that sets these flags at the front of a pattern, as "(?im)", or nothing where none is set."""
+    """Returns the group that sets these flags in front of a pattern, such as "(?im)", or "" if none is set."""
     found = letters(flags).lower()
     return f"(?{found})" if found else ""
 
 
 def code(flags: int, among: str = JUDGED) -> str:
-    """Returns the flags as an expression, as "re.I | re.M", or nothing where none is set."""
+    """Returns the flags as a Python expression, such as "re.I | re.M", or "" if none is set."""
     return " | ".join(f"re.{it}" for it in letters(flags, among))

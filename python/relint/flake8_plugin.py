@@ -20,7 +20,7 @@ Violation = Tuple[int, int, str, Type["Plugin"]]
 
 
 class Plugin:
-    """What flake8 asks for each file. It gives the tree to every plugin of this kind; here only the text counts."""
+    """The class that flake8 creates for each file. It gives the tree to every such plugin; only the text is used here."""
 
     name = "relint"
     version = version()
@@ -32,7 +32,7 @@ class Plugin:
 
     @classmethod
     def parse_options(cls, options: object) -> None:
-        """Ends flake8 with one line before it begins where the program isn't there. Raises flake8's ExecutionError."""
+        """Raises flake8's ExecutionError if the program isn't there, so that flake8 ends with one line before it begins."""
         try:
             program.program()
         except program.ProgramError as error:
@@ -40,7 +40,7 @@ class Plugin:
             raise failure(f"relint: {visible(str(error))}") from error
 
     def run(self) -> Iterator[Violation]:
-        """Yields the violations; one of RLT203 with the reason where relint has no answer."""
+        """Yields the violations, or one RLT203 with the reason if relint has no answer."""
         # (an error that is raised here stops flake8's own processes for good)
         try:
             found = buffers.judged(self._text, self._path, most=0)

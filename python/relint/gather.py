@@ -1,6 +1,6 @@
-"""The report that a tool shows: read from standard input, or made by runs of relint over the paths that were named.
+"""Gets the report that a tool shows: from standard input, or by running relint over the paths that were named.
 
-What counts comes from the words, then from a settings file that they name, then from the configuration.
+An option of the command line wins over the settings file that the command line names, and that wins over the configuration.
 """
 from __future__ import annotations
 
@@ -33,11 +33,11 @@ from .writing import WriteError, replace_file, visible
 
 JOBS = "how many runs of relint go on at a time (as many as processors)"
 INTERRUPTED = 130
-# How many files a run has: each run takes as long to begin as some files take to judge.
+# How many files one run of relint is given. Starting a run takes as long as judging some files.
 LEAST_OF_A_PART, MOST_OF_A_PART, PARTS_A_JOB = 16, 512, 4
 MOST_SETTINGS = 1_048_576
 MOST_WORD_BYTES = 1_000_000
-# What the system keeps for a pointer and the end of each word, with room to spare.
+# How many bytes the system takes for each word besides its letters, for a pointer and the final NUL, with room to spare.
 BYTES_A_WORD = 16
 # What a settings file of relint may hold.
 SETTINGS_KEYS = {
@@ -48,7 +48,7 @@ SETTINGS_KEYS = {
 
 
 class GatherError(Exception):
-    """There is no report to show; the message says why, and `status` is the exit status that goes with it."""
+    """Raised if there is no report to show; the message says why, and `status` is the exit status of the tool."""
 
     def __init__(self, message: str, status: int = 2) -> None:
         super().__init__(message)
@@ -57,7 +57,7 @@ class GatherError(Exception):
 
 @dataclass(frozen=True)
 class Rules:
-    """What the words, the settings and the configuration ask for, in this order."""
+    """What the user asks for: in the command line, or else in the settings, or else in the configuration."""
 
     config: Config
     compile_as: str
@@ -71,22 +71,25 @@ class Rules:
 
 
 class Finder:
-    """Finds entries beyond those of relint: as relint-wide does. `kinds` are those of the entries that it may find."""
+    """Finds entries that relint doesn't, as relint-wide does. `kinds` are the kinds of entries that it may find."""
 
     kinds: Tuple[str, ...] = ()
 
     def entries(self, own: Sequence[Entry], selection: Selection, rules: Rules, folders: Tuple[str, ...]) -> Tuple[Entry, ...]:
-        """Returns what is found beyond relint's own entries in what was selected; the files lie in one of the folders."""
+        """Returns the entries that are found in the selected files besides `own`, the entries of relint.
+
+        The files lie in one of the folders, or are among them.
+        """
         raise NotImplementedError
 
 
 @dataclass(frozen=True)
 class Gathered:
-    """A report with its findings, the exit status that goes with it, and the mode that `compile` counts as.
+    """A report with its findings, its exit status, and the mode that a call of `compile` is judged in.
 
-    The report has no entry that the baseline accepts; `split` says which those are. `warned` are the entries that are shown
-    and don't fail. Its sources lie in one of the folders, or are among them. `max_pairs` is that of the run, if there was one.
-    `kinds` are those of relint-wide that were looked for.
+    Entries that the baseline accepts aren't in the report; `split` has them. `warned` are the entries that are shown but don't
+    make the tool fail. The sources lie in one of `folders`, or are among them. `max_pairs` is the limit that relint was run
+    with, or None if the report was read from standard input. `kinds` are the kinds of relint-wide that were looked for.
     """
 
     report: Report
@@ -116,7 +119,7 @@ class Gathered:
 
 
 def add_options(parser: argparse.ArgumentParser, jobs: str = JOBS) -> None:
-    """Adds the paths and the options that say which report is shown; `jobs` says what --jobs is for."""
+    """Adds the paths and the options that say which report is shown; `jobs` is the help text of --jobs."""
     parser.add_argument("paths", nargs="*", metavar="PATH",
                         help="files and folders, by default those of the configuration; - is a JSON report on standard input")
     parser.add_argument("--tracked", action="store_true",
@@ -154,7 +157,10 @@ def add_time_options(parser: argparse.ArgumentParser) -> None:
 
 
 def parsed(parser: argparse.ArgumentParser, words: Optional[Sequence[str]]) -> argparse.Namespace:
-    """Returns the words as the parser reads them, options between paths too; behind -- every word is a path."""
+    """Parses the words of a command line, or those of `sys.argv` if `words` is None.
+
+    Options may stand between paths. After `--`, every word is a path.
+    """
     given = list(sys.argv[1:] if words is None else words)
     options, paths = (given[:given.index("--")], given[given.index("--") + 1:]) if "--" in given else (given, [])
     found = parser.parse_intermixed_args(options)
@@ -163,7 +169,10 @@ def parsed(parser: argparse.ArgumentParser, words: Optional[Sequence[str]]) -> a
 
 
 def found_config(given: argparse.Namespace) -> Config:
-    """Returns the configuration for the words. Raises GatherError."""
+    """Returns the configuration that the command line names, or the nearest one to its paths.
+
+    Raises GatherError if it can't be read or isn't valid.
+    """
     paths = [it for it in given.paths if it != "-"]
     try:
         if given.config is not None and given.no_config:
@@ -174,7 +183,10 @@ def found_config(given: argparse.Namespace) -> Config:
 
 
 def rules_of(given: argparse.Namespace, found: Config) -> Rules:
-    """Returns what the words ask for, with the settings and the configuration behind them. Raises GatherError."""
+    """Returns what the command line asks for; what it doesn't say comes from the settings, then from the configuration.
+
+    Raises GatherError if the settings can't be read, or if the two degrees contradict each other.
+    """
     settings = _settings(given.settings) if given.settings else {}
     is_set = given.max_degree is not None or "max-degree" in settings or "max-degree" in found.given
     max_degree = _first(given.max_degree, settings.get("max-degree"), found.max_degree)
@@ -186,7 +198,7 @@ def rules_of(given: argparse.Namespace, found: Config) -> Rules:
     baseline = given.baseline
     if baseline is None and found.baseline is not None:
         baseline = found.from_here(found.baseline)
-    # (relint-baseline asks for none)
+    # (relint-baseline passes "" to ask for no baseline)
     baseline = baseline or None
     return Rules(
         found, _first(given.mode, settings.get("compile-as"), found.compile_as), max_degree if is_set else None, warn_degree,
@@ -196,12 +208,13 @@ def rules_of(given: argparse.Namespace, found: Config) -> Rules:
 
 
 def _limits(given: argparse.Namespace, found: Config) -> Limits:
-    """How long relint may take; a tool without these options has those of the configuration."""
+    """How long relint may take: by the options of the tool if it has them, otherwise by the configuration."""
     seconds = _first(getattr(given, "file_seconds", None), found.seconds, SECONDS)
     return Limits(seconds, max(seconds, _first(getattr(given, "total_seconds", None), TOTAL_SECONDS)))
 
 
 def _first(*values: Any) -> Any:
+    """The first value that isn't None, or None if all are."""
     return next((it for it in values if it is not None), None)
 
 
@@ -211,7 +224,7 @@ def processors() -> int:
 
 
 def _settings(path: str) -> Mapping[str, Any]:
-    """What a settings file of relint holds. Raises GatherError where relint would refuse it."""
+    """The table that a settings file of relint holds. Raises GatherError if it can't be read or relint would refuse it."""
     try:
         table = config.read_toml(read_named(path, MOST_SETTINGS).decode("utf-8"))
         config.check_table(table, SETTINGS_KEYS, visible(path))
@@ -223,10 +236,10 @@ def _settings(path: str) -> Mapping[str, Any]:
 
 
 def gathered(given: argparse.Namespace, finder: Optional[Finder] = None) -> Gathered:
-    """Returns the report that the words ask for, with what a finder finds beyond it.
+    """Returns the report that the command line asks for, with the entries of the finder added.
 
-    Without a finder, `wide` of the configuration says whether one looks. Raises GatherError, or ProgramError where relint
-    isn't there.
+    If no finder is given, relint-wide is the finder if the configuration sets `wide`. Raises GatherError if there is no
+    report, and ProgramError if relint can't be run.
     """
     _check_paths(given)
     found = found_config(given)
@@ -255,7 +268,10 @@ def gathered(given: argparse.Namespace, finder: Optional[Finder] = None) -> Gath
 
 
 def _finder(given: argparse.Namespace, found: Config, notes: List[str]) -> Optional[Finder]:
-    """What looks beyond literals for a tool that shows what it finds, where the configuration asks for that."""
+    """The finder of relint-wide, if the configuration asks for it and the tool shows what it finds; otherwise None.
+
+    The warnings of relint-wide are added to `notes`.
+    """
     if not found.wide or not getattr(given, "shows_beyond", True):
         return None
     made: Tuple[Finder, List[str]] = importlib.import_module("relint.wide.finder").by_reading(found)
@@ -264,7 +280,10 @@ def _finder(given: argparse.Namespace, found: Config, notes: List[str]) -> Optio
 
 
 def reads_input(given: argparse.Namespace, found: Config) -> bool:
-    """Returns whether the words ask for a report on standard input: by -, or by no path where there is no configuration."""
+    """Returns whether the tool is to read a report from standard input.
+
+    It is if the only path is `-`; or if there is no path, no --tracked and no configuration, and a report may come there.
+    """
     if given.paths == ["-"]:
         return True
     return not (given.paths or given.tracked or found.file) and _has_input()
@@ -280,7 +299,7 @@ def _has_input() -> bool:
 
 
 def _waiting_input() -> bool:
-    """Whether there is something to read on standard input, which nobody asked for."""
+    """Whether data is waiting on standard input."""
     if not _has_input():
         return False
     found = array.array("i", [0])
@@ -292,6 +311,7 @@ def _waiting_input() -> bool:
 
 
 def _check_paths(given: argparse.Namespace) -> None:
+    """Raises GatherError if a path is empty, or if `-` is one of several paths."""
     if "" in given.paths:
         raise GatherError("a path is empty")
     if "-" in given.paths and given.paths != ["-"]:
@@ -299,6 +319,7 @@ def _check_paths(given: argparse.Namespace) -> None:
 
 
 def _selection(given: argparse.Namespace, found: Config, paths: Sequence[str], notebooks: bool) -> Selection:
+    """The files to look at below the paths. Raises GatherError if git can't list them."""
     exclusions = Exclusions(found, given.exclude, not given.no_default_exclude)
     try:
         return selected(paths, exclusions, given.tracked, not given.paths, notebooks)
@@ -307,7 +328,7 @@ def _selection(given: argparse.Namespace, found: Config, paths: Sequence[str], n
 
 
 def _check_selection(selection: Selection, paths: Sequence[str]) -> None:
-    """Raises GatherError where there is no Python file among what is named, unless globs leave out each file that is."""
+    """Raises GatherError if no Python file was found below the paths, unless every path is a file that a glob leaves out."""
     if not selection.is_empty() or (selection.named_left_out and selection.named_left_out == len(paths)):
         return
     more = selection.unlooked()
@@ -315,6 +336,7 @@ def _check_selection(selection: Selection, paths: Sequence[str]) -> None:
 
 
 def _from_input(given: argparse.Namespace) -> Report:
+    """The report on standard input. Raises GatherError if there is none, or if an option needs a path."""
     for name in ("exclude", "max_pairs", "tracked"):
         if getattr(given, name):
             raise GatherError(f"--{name.replace('_', '-')} needs a PATH: this report is made already")
@@ -324,6 +346,7 @@ def _from_input(given: argparse.Namespace) -> Report:
 
 
 def _read_input(folders: Sequence[str]) -> List[Report]:
+    """The reports on standard input. Raises GatherError if one can't be read or names a source outside of the folders."""
     try:
         text = read_stream(sys.stdin.buffer)
         if not text.strip():
@@ -337,7 +360,7 @@ def _read_input(folders: Sequence[str]) -> List[Report]:
 
 
 def _reports(text: bytes) -> List[Report]:
-    """The reports that a text holds: one, or one a line, as where several runs wrote it."""
+    """The reports that a text holds: one, or one per line if several runs wrote it. Raises GatherError."""
     try:
         return [read_report(text)]
     except ReportError as error:
@@ -351,9 +374,9 @@ def _reports(text: bytes) -> List[Report]:
 
 
 def counted_degree(report: Report) -> int:
-    """Returns the highest degree that isn't a finding, by how many findings the report itself counts.
+    """Returns the highest degree that isn't a finding, worked out from the number of findings that the report gives.
 
-    Entries of relint-wide aren't among those that a report counts.
+    That number doesn't include entries of relint-wide.
     """
     own = own_of(report.entries)
     rest = report.findings - sum(it.kind == "exponential" for it in own)
@@ -362,7 +385,7 @@ def counted_degree(report: Report) -> int:
 
 
 def _run(selection: Selection, rules: Rules) -> Tuple[Report, int]:
-    """The report on the files, by as many runs as are asked for, and its status."""
+    """Runs relint over the selected files, `rules.jobs` runs at a time; returns the joined report and its status."""
     judge = judge_of(rules)
     answers: List[Answered] = []
     try:
@@ -380,13 +403,13 @@ def _run(selection: Selection, rules: Rules) -> Tuple[Report, int]:
 
 
 def judge_of(rules: Rules) -> Judge:
-    """Returns what runs relint by the rules."""
+    """Returns a Judge that runs relint with the options that the rules give."""
     options = ["--report=2", f"--mode={rules.compile_as}", f"--max-pairs={rules.max_pairs}"]
     return Judge(options, None, rules.limits)
 
 
 def parts(paths: Sequence[str], jobs: int) -> Iterator[List[str]]:
-    """Gives the paths in parts for so many runs at a time, each of which the system takes as the words of one command."""
+    """Yields the paths in parts for `jobs` runs at a time; each part is short enough for one command line."""
     size = max(LEAST_OF_A_PART, min(MOST_OF_A_PART, -(-len(paths) // (jobs * PARTS_A_JOB))))
     for at in range(0, len(paths), size):
         yield from batches(paths[at:at + size])
@@ -396,9 +419,9 @@ def ruled(
     report: Report, rules: Rules, selection: Optional[Selection], folders: Tuple[str, ...], notes: List[str], status: int = 0,
     kinds: Tuple[str, ...] = (), sources: Optional[Sources] = None,
 ) -> Gathered:
-    """Returns the report without what the baseline accepts, with its findings and the status that follows.
+    """Returns the report without the entries that the baseline accepts, with its findings and the exit status.
 
-    Its sources are those of the folders, unless they are given. Raises GatherError.
+    Sources are read below the folders unless `sources` is given. Raises GatherError if the baseline can't be used.
     """
     max_degree = rules.max_degree
     if max_degree is None:
@@ -424,13 +447,13 @@ def ruled(
 
 
 def show_config(given: argparse.Namespace) -> int:
-    """Writes the configuration that the words go by, and answers the exit status. Raises GatherError."""
+    """Writes the configuration that the command line uses, and returns the exit status. Raises GatherError."""
     write("".join(f"{it}\n" for it in config.shown(found_config(given))))
     return 0
 
 
 def batches(paths: Sequence[str]) -> Iterator[List[str]]:
-    """Gives the paths in parts that the system takes as the words of one command."""
+    """Yields the paths in parts; each is short enough for one command line."""
     limit = _word_bytes()
     part: List[str] = []
     held = 0
@@ -446,6 +469,7 @@ def batches(paths: Sequence[str]) -> Iterator[List[str]]:
 
 
 def _word_bytes() -> int:
+    """How many bytes the paths of one command may take: half of the system's limit, less what the environment takes."""
     try:
         system = os.sysconf("SC_ARG_MAX")
     except (AttributeError, ValueError, OSError):
@@ -455,7 +479,7 @@ def _word_bytes() -> int:
 
 
 def put(name: str, output: str, data: bytes) -> int:
-    """Puts what the tool of this name made in the place of a file, and answers the exit status."""
+    """Replaces the file `output` by `data`, and returns the exit status of the tool `name`. Faults go to standard error."""
     try:
         for lost in replace_file(output, data):
             print(f"{name}: {visible(output)}: {lost}", file=sys.stderr)
@@ -466,19 +490,20 @@ def put(name: str, output: str, data: bytes) -> int:
 
 
 def tell(name: str, given: Gathered) -> None:
-    """Says on standard error what isn't part of the report: warnings, and the entries of the baseline that are stale."""
+    """Writes what isn't part of the report to standard error: the warnings, and the stale entries of the baseline."""
     lines = [*given.notes, *(known.stale_lines(given.baseline or "", given.split) if given.split else [])]
     for it in lines:
         print(f"{name}: {it}", file=sys.stderr)
 
 
 def _flushed(status: int) -> int:
+    """Flushes standard output, and returns the status."""
     flush()
     return status
 
 
 def ended(name: str, work: Callable[[], int]) -> int:
-    """Runs the work of the tool of this name, and answers the exit status. An error goes to standard error in one line."""
+    """Runs `work` for the tool `name`, and returns the exit status. An error goes to standard error in one line."""
     try:
         return _flushed(work())
     except (GatherError, ConfigError, BaselineError) as error:

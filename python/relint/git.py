@@ -1,4 +1,4 @@
-"""Asks git which files it tracks, so that nothing of a repository is run or obeyed except its index.
+"""Asks git which files it tracks, without running or using anything of a repository except its index.
 
 The configuration of a repository can name programs that git runs, and a folder of the work tree can pose as a repository. So
 the top of the work tree is found here, by its entry `.git`; git is asked at that top, and has to take it for the top as well.
@@ -27,11 +27,11 @@ SAFE_DIRECTORY = "git config --global --add safe.directory"
 
 
 class GitError(Exception):
-    """Git can't say what it tracks; the message says why, in one line."""
+    """Raised if git can't say which files it tracks; the message says why, in one line."""
 
 
 def environment() -> Dict[str, str]:
-    """Returns this process's environment for git: without every variable of git's own, and with those that keep it quiet."""
+    """Returns the environment for git: this process's without git's own variables, and with those that keep it quiet."""
     kept = {name: value for name, value in os.environ.items() if not name.startswith("GIT_")}
     return {**kept, **VARIABLES}
 
@@ -39,7 +39,7 @@ def environment() -> Dict[str, str]:
 def tracked(path: str) -> List[str]:
     """Returns the files that git tracks at a path or below it. Raises GitError.
 
-    Each is written in the way that the path is, relative or absolute. Below "." the files have no "./" in front.
+    The files are relative or absolute as the path is. Those below "." have no "./" in front.
     """
     folder, name = (path, "") if os.path.isdir(path) else os.path.split(path)
     here = os.path.realpath(folder or ".")
@@ -52,7 +52,7 @@ def tracked(path: str) -> List[str]:
 
 
 def work_tree(folder: str) -> str:
-    """Returns the top of the work tree that a folder is in. Raises GitError where there is none, or git takes another one."""
+    """Returns the top of the work tree that a folder is in. Raises GitError if there is none, or git finds another one."""
     tops = [it for it in _above(folder) if os.path.lexists(os.path.join(it, ".git"))]
     if not tops:
         raise GitError(f"{folder} is in no work tree of git")
@@ -68,7 +68,7 @@ def work_tree(folder: str) -> str:
 
 
 def _above(folder: str) -> List[str]:
-    """The folder and all above it, the nearest first."""
+    """The folder and all folders above it, the nearest first."""
     found = [folder]
     while os.path.dirname(found[-1]) != found[-1]:
         found.append(os.path.dirname(found[-1]))
@@ -76,7 +76,7 @@ def _above(folder: str) -> List[str]:
 
 
 def _is_pointer(entry: str) -> bool:
-    """Whether an entry `.git` says where the repository is, as in a submodule, instead of being it."""
+    """Whether an entry `.git` only says where the repository is, as in a submodule."""
     return os.path.islink(entry) or os.path.isfile(entry)
 
 
@@ -105,7 +105,7 @@ def _run(top: str, *words: str) -> str:
 
 
 def _reason(top: str, said: str) -> str:
-    """Why git refused, in one line."""
+    """A line that says why git refused."""
     if "dubious ownership" in said or "unsafe repository" in said:
         return f"another user owns {top} (dubious ownership); if you trust that user: {SAFE_DIRECTORY} {top}"
     lines = [it for it in said.splitlines() if it.strip()]

@@ -1,4 +1,4 @@
-"""Lines that build servers show beside the code they speak of, as `::error file=..,line=..::message`."""
+"""Lines that build servers show beside the code that they are about, such as `::error file=..,line=..::message`."""
 from __future__ import annotations
 
 from typing import List, Sequence
@@ -11,7 +11,7 @@ from .writing import workflow_command
 
 
 def line(level: str, entry: Entry, title: str, message: str) -> str:
-    """Returns one line of a level (error, warning or notice), with everything escaped that would end a part of it."""
+    """Returns a line for a build server; `level` is error, warning or notice."""
     properties = [("file", entry.path)]
     if entry.place:
         properties += [("line", str(entry.place.line)), ("col", str(entry.place.column))]
@@ -32,7 +32,7 @@ def _message(found: Finding) -> str:
 
 
 def finding_line(found: Finding) -> str:
-    """Returns the line of a finding: an error where it is exponential, else a warning."""
+    """Returns the line for a finding: an error if it is exponential, otherwise a warning."""
     verdict = found.judged.verdict()
     word = plain.class_word(verdict) if verdict else found.judged.kind
     if found.entry.beyond is not None:
@@ -42,7 +42,7 @@ def finding_line(found: Finding) -> str:
 
 
 def short_line(entry: Entry) -> str:
-    """Returns the line of a finding of which only the class is told."""
+    """Returns the line for a finding that is shown only with its class."""
     verdict = entry.verdict()
     word = plain.class_word(verdict) if verdict else entry.kind
     if entry.beyond is not None:
@@ -52,10 +52,10 @@ def short_line(entry: Entry) -> str:
 
 
 def notice_line(entry: Entry) -> str:
-    """Returns the line of an entry that wasn't decided or analysed."""
+    """Returns the line for an entry that wasn't decided or analysed."""
     return line("notice", entry, f"relint: not analysed ({rules.code(entry)})", plain.outcome_words(entry))
 
 
 def lines(found: Sequence[Finding], short: Sequence[Entry], others: Sequence[Entry]) -> List[str]:
-    """Returns the lines of findings, of those of which only the class is told, and of the other entries that are named."""
+    """Returns the lines for findings in full, for findings with only their class, and for other entries."""
     return [*map(finding_line, found), *map(short_line, short), *map(notice_line, others)]

@@ -1,4 +1,4 @@
-"""How the steps of a match grow over the texts of a family, as `relint cost` counts them."""
+"""Measures how the steps of a match grow over the texts of a family, as `relint cost` counts them."""
 from __future__ import annotations
 
 import re
@@ -11,10 +11,11 @@ from . import program
 from .flags import VALUES, front
 from .reports import Family, Text, Verdict
 
-# The text that is told has about so many steps, which take Python half a minute or so, or as many as the longest text has.
+# The text that is shown takes about TOLD_STEPS steps, half a minute or so in Python, unless that needs more characters than
+# LONGEST_TOLD.
 TOLD_STEPS = 10**9
 LONGEST_TOLD = 65_000
-# The points are those of texts up to these steps or this length.
+# Texts are measured until one takes LAST_STEPS steps, or the next one would be longer than LONGEST_TEXT.
 LAST_STEPS = 10**18
 # How long relint may take for a question, and for all that a tool asks.
 SECONDS_OF_A_QUESTION, SECONDS_OF_ALL = 5, 300
@@ -35,7 +36,10 @@ class Point:
 
 @dataclass(frozen=True)
 class Growth:
-    """Points by rising k, that one which is told and shown, and by how much the steps grow from it to the next k."""
+    """The points that were measured, by rising k.
+
+    `told` is the point that is shown; `rate` is the steps at the next k over those of `told`, or None if that isn't known.
+    """
 
     points: Tuple[Point, ...]
     told: Point
@@ -43,14 +47,14 @@ class Growth:
 
     @property
     def k_to_show(self) -> int:
-        """The k of the text that is told: what is shown to run has the same text."""
+        """The k of the text that is shown, both in words and in the code to run."""
         return self.told.k
 
 
 def as_word(pattern: Text, flags: int) -> Optional[str]:
-    """Returns the pattern word that has relint judge a pattern under flags, or None where no word can hold it.
+    """Returns a pattern for relint's command line that stands for `pattern` under `flags`, or None if there is none.
 
-    A bytes pattern is read as text under ASCII, which has the same classes for all codes up to 255.
+    A bytes pattern is given as text with the flag ASCII, under which the classes are the same for all codes up to 255.
     """
     is_bytes = isinstance(pattern, bytes)
     text = pattern.decode("latin-1") if isinstance(pattern, bytes) else pattern
@@ -60,7 +64,7 @@ def as_word(pattern: Text, flags: int) -> Optional[str]:
 
 
 def _is_word(word: str) -> bool:
-    """Returns whether relint can be given a text as a word: UTF-8 without NUL that isn't too long."""
+    """Whether a text can be an argument of relint: it is UTF-8, has no NUL, and isn't too long."""
     try:
         return "\x00" not in word and len(word.encode("utf-8")) < 100_000
     except UnicodeEncodeError:
@@ -68,9 +72,9 @@ def _is_word(word: str) -> bool:
 
 
 class Meter:
-    """Asks `relint cost` and `relint class`, each question once. It may be shared by threads.
+    """Asks `relint cost` and `relint class`, and remembers the answers. Threads may share it.
 
-    A question that takes too long has no answer, and no question has one once the time of all is over.
+    There is no answer to a question that takes longer than `seconds`, or that is new after `total` seconds.
     """
 
     def __init__(self, seconds: float = SECONDS_OF_A_QUESTION, total: float = SECONDS_OF_ALL) -> None:
@@ -96,7 +100,7 @@ class Meter:
         return answer.out.decode("utf-8", "replace") if answer.status in (0, 1) else ""
 
     def cost(self, word: str, mode: str, text: Text) -> Optional[Tuple[int, bool]]:
-        """Returns the steps of a text and whether it is matched, or None where relint has no answer."""
+        """Returns the steps that a text takes and whether it matches, or None if relint has no answer."""
         given = text.decode("latin-1") if isinstance(text, bytes) else text
         if not _is_word(given):
             return None
@@ -104,27 +108,29 @@ class Meter:
         return (int(found.group(1)), found.group(2) == "matched") if found else None
 
     def verdict(self, word: str, mode: str) -> str:
-        """Returns the verdict line of a pattern, or "" where relint refuses it."""
+        """Returns the verdict line of a pattern, or "" if relint refuses it."""
         return self._asked("class", "--mode", mode, "--", word).partition("\n")[0]
 
 
-def _length(family: Family, k: int) -> int:
+def _text_length(family: Family, k: int) -> int:
+    """The length of text k of a family."""
     return sum(map(len, family.heads)) + k * sum(map(len, family.pumps))
 
 
 class _Measured:
-    """The points of one family so far, each measured once."""
+    """Measures texts of one family, each once, and keeps the points."""
 
     def __init__(self, meter: Meter, word: str, mode: str, family: Family) -> None:
         self.meter, self.word, self.mode, self.family = meter, word, mode, family
         self.points: Dict[int, Point] = {}
 
     def at(self, k: int) -> Optional[Point]:
+        """Returns the point of text k, or None if relint has no answer."""
         if k not in self.points:
             found = self.meter.cost(self.word, self.mode, self.family.text(k))
             if found is None:
                 return None
-            self.points[k] = Point(k, _length(self.family, k), *found)
+            self.points[k] = Point(k, _text_length(self.family, k), *found)
         return self.points[k]
 
     def doubled(self, enough: int) -> bool:
@@ -133,7 +139,7 @@ class _Measured:
         Returns False if relint has no answer for one of them.
         """
         k = 1
-        while k == 1 or _length(self.family, k) <= LONGEST_TEXT:
+        while k == 1 or _text_length(self.family, k) <= LONGEST_TEXT:
             point = self.at(k)
             if point is None:
                 return False
@@ -143,7 +149,10 @@ class _Measured:
         return True
 
     def least(self, enough: int) -> Point:
-        """Returns the point of the least k with so many steps, or the last one measured where none has so many."""
+        """Returns the point of the least k with at least `enough` steps, found by bisection after `doubled`.
+
+        Returns the last point that was measured if none has as many.
+        """
         rising = sorted(self.points)
         high = next((k for k in rising if self.points[k].steps >= enough), None)
         if high is None:
@@ -158,7 +167,10 @@ class _Measured:
 
 
 def measure(meter: Meter, word: str, mode: str, family: Family, verdict: Verdict) -> Optional[Growth]:
-    """Returns how the steps grow over a family's texts in a mode, or None where relint doesn't count them."""
+    """Returns how the steps grow over a family's texts in a mode.
+
+    Returns None if the texts don't grow, or if relint has no answer for one of the texts 1, 2, 4 and so on.
+    """
     if not any(family.pumps):
         return None
     measured = _Measured(meter, word, mode, family)
@@ -168,6 +180,7 @@ def measure(meter: Meter, word: str, mode: str, family: Family, verdict: Verdict
 
 
 def _exponential(measured: _Measured) -> Optional[Growth]:
+    """The growth of an exponential family; it shows the first text with TOLD_STEPS steps."""
     if not measured.doubled(LAST_STEPS):
         return None
     told = measured.least(TOLD_STEPS)
@@ -177,11 +190,12 @@ def _exponential(measured: _Measured) -> Optional[Growth]:
 
 
 def _polynomial(measured: _Measured, degree: int) -> Optional[Growth]:
+    """The growth of a family of this degree. Steps grow as k**degree, so the text to show is estimated from the last point."""
     if not measured.doubled(LAST_STEPS):
         return None
     points = _rising(measured)
     last = points[-1]
-    longest = max(1, (LONGEST_TOLD - _length(measured.family, 0)) // sum(map(len, measured.family.pumps)))
+    longest = max(1, (LONGEST_TOLD - _text_length(measured.family, 0)) // sum(map(len, measured.family.pumps)))
     times_longer = (TOLD_STEPS / max(1, last.steps)) ** (1 / max(1, degree))
     told = measured.at(max(1, min(longest, round(last.k * times_longer))))
     return Growth(points, told or last, None)

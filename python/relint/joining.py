@@ -1,16 +1,16 @@
-"""Joins reports of parts into the bytes that one run of relint over all of them gives.
+"""Joins reports on parts into the bytes that a single run of relint over all of them writes.
 
-The parts are spliced as they are: a report is a start, its entries and an end with the counts, in each of the four layouts.
+In each of the four layouts, a report has a start, its entries, and an end with the counts. The entries are copied unchanged.
 """
 from __future__ import annotations
 
 TYPE_CHECKING = False
-if TYPE_CHECKING:  # (it takes as long to import as thousands of files take to list)
+if TYPE_CHECKING:  # (importing typing takes as long as listing thousands of files)
     from typing import List, Optional, Sequence, Tuple
 
 # The order in which relint's statuses win over each other.
 STATUS_ORDER = (2, 5, 4, 3, 1, 0)
-# What stands behind each count: in the last line of a text, without and with a baseline, and at the end of a JSON report.
+# The text after each count: in the last line of a text without and with a baseline, and at the end of a JSON report.
 COUNTED = (b" entries, ", b" findings, ", b" refused, ", b" undecided\n")
 COUNTED_WITH_HIDDEN = (*COUNTED[:3], b" undecided, ", b" hidden\n")
 COUNTED_IN_JSON = (b',"refused":', b',"undecided":', b',"version":', b"}\n")
@@ -20,7 +20,7 @@ SARIF_FINDINGS = (b'"ruleId":"degree"', b'"ruleId":"exponential"')
 
 
 class JoinError(Exception):
-    """The bytes are no report of relint, or reports that don't go together; the message says why."""
+    """Raised if bytes aren't a report of relint, or if reports can't be joined; the message says why."""
 
 
 class Piece:
@@ -40,7 +40,7 @@ class Piece:
 
 
 def take_apart(report: bytes) -> Piece:
-    """Returns the report's piece. Raises JoinError where it has none of the four layouts."""
+    """Takes a report apart. Raises JoinError if it has none of the four layouts."""
     piece = _json_piece(report) or _sarif_piece(report) or _text_piece(report)
     if piece is None:
         raise JoinError("these bytes are no whole report of relint check")
@@ -48,7 +48,7 @@ def take_apart(report: bytes) -> Piece:
 
 
 def join(pieces: Sequence[Piece]) -> bytes:
-    """Returns the one report. Raises JoinError where the pieces have different layouts or none is there."""
+    """Returns the joined report. Raises JoinError if the pieces have different layouts, or if there are none."""
     if not pieces:
         raise JoinError("there is no report to join")
     first = pieces[0]
@@ -66,7 +66,7 @@ def join(pieces: Sequence[Piece]) -> bytes:
 
 
 def join_statuses(statuses: Sequence[int]) -> int:
-    """Returns the first of the statuses in relint's order; one that relint never has wins over all."""
+    """Returns the status that wins in relint's order. A status that relint never has wins over all others."""
     for status in statuses:
         if status not in STATUS_ORDER:
             return status
@@ -74,14 +74,14 @@ def join_statuses(statuses: Sequence[int]) -> int:
 
 
 def status_of(pieces: Sequence[Piece]) -> int:
-    """Returns the status of the run that gave these reports, as far as they show it: 3, 1 or 0."""
+    """Returns the status of a run with these reports, as far as they show it: 3, 1 or 0."""
     if any(it.unreadable for it in pieces):
         return 3
     return 1 if any(it.findings for it in pieces) else 0
 
 
 def _numbers(text: bytes, behind: Sequence[bytes]) -> Optional[Tuple[int, ...]]:
-    """Returns the numbers of a text in which each stands before one of these; None where the text is of another form."""
+    """The numbers in a text that has one number before each of these texts; None if it has another form."""
     found: List[int] = []
     for it in behind:
         digits, mark, text = text.partition(it)
@@ -111,7 +111,7 @@ def _sarif_piece(report: bytes) -> Optional[Piece]:
 
 
 def _begins_sarif(start: bytes) -> bool:
-    """Whether a SARIF report begins so; the kind of its columns may be said."""
+    """Whether this can be the start of a SARIF report; it may tell the kind of its columns."""
     if not start.startswith(SARIF_START):
         return False
     said = start[len(SARIF_START):]

@@ -1,8 +1,9 @@
-"""Runs of relint that end in time.
+"""Runs relint with a limit of time.
 
 A run that takes too long is ended, and its files are tried in parts, then one by one. A file that takes too long by itself is
-judged call by call: in a copy of it, the literals of all other calls are made trivial, each at its place and of its length. So
-what relint says of the call that is left is its own answer. What then still isn't judged has an entry of the kind `time`.
+judged call by call: relint is given a copy in which the literals of all other calls are replaced by trivial ones of the same
+length, so its answer for the remaining call is the same as in the whole file. A call that takes too long even then gets an
+entry of the kind `time`.
 """
 from __future__ import annotations
 
@@ -24,15 +25,15 @@ SECONDS, TOTAL_SECONDS = 20, 3600
 MOST_SECONDS = 999_999
 # Files of a run that are tried together once the whole took too long.
 FILES_OF_A_PART = 64
-# A run over many files has the seconds of one file for so many, since it judges thousands in a second.
+# A run may take the seconds of one more file for every FILES_OF_THE_SECONDS files; relint judges thousands in a second.
 FILES_OF_THE_SECONDS = 1000
-# Of the seconds of a file: how long a quick run over some of its calls may take, and all runs over them together.
+# As multiples of the seconds of a file: how long a quick run over some of its calls may take, and all runs together.
 QUICKLY, SECONDS_OF_CALLS = 0.1, 2.0
 CALLS_OF_A_PART = 16
 LETTER = re.compile(r"(\\\r\n|\\[\r\n]|\r\n|[\r\n])|.", re.S)
 TOKEN = re.compile(r"""#[^\r\n]*|(?:\"\"\"|''')|["']""")
 ESCAPED = r"\\(?:\r\n|.)"
-# From behind the first quote to behind the last one.
+# For each kind of quotes, matches the rest of a literal from after its opening quotes to after its closing quotes.
 ENDS = {
     **{it: re.compile(rf"[^\\\r\n{it}]*(?:{ESCAPED}[^\\\r\n{it}]*)*{it}", re.S) for it in "'\""},
     **{it * 3: re.compile(rf"[^\\{it}]*(?:(?:{ESCAPED}|{it}(?!{it}{it}))[^\\{it}]*)*{it * 3}", re.S) for it in "'\""},
@@ -54,7 +55,7 @@ class Answered(NamedTuple):
 
 
 class JudgeError(Exception):
-    """A run gave no report; the message says why, and `status` is its own."""
+    """Raised if a run gave no report; the message says why, and `status` is the exit status of the run."""
 
     def __init__(self, message: str, status: int) -> None:
         super().__init__(message)
@@ -70,9 +71,9 @@ class Limits:
 
 
 class Judge:
-    """Runs relint check with options, and ends what takes long.
+    """Runs `relint check` with options, and ends runs that take too long.
 
-    A baseline is named apart: in a file that is judged call by call it hides nothing.
+    The baseline is given apart from the options, because it isn't used on a file that is judged call by call.
     """
 
     def __init__(self, options: Sequence[str], baseline: Optional[str], limits: Limits) -> None:
@@ -82,9 +83,10 @@ class Judge:
         self._until = time.monotonic() + limits.total
 
     def answers(self, words: Sequence[str], files: Sequence[str]) -> Iterator[Answered]:
-        """Yields the answers for words that stand for these files, in order: one, or several where that took too long.
+        """Runs relint with `words`, which name exactly these files; yields one answer, or several if that took too long.
 
-        Raises JudgeError where relint gave no report, and ProgramError where it can't be run.
+        The answers are in the order of the files. Raises JudgeError if relint gave no report, and ProgramError if it can't
+        be run.
         """
         seconds = self.limits.seconds * (1 + len(files) / FILES_OF_THE_SECONDS)
         answer = self.run([*self.options, *self._hidden], words, seconds)
@@ -100,7 +102,10 @@ class Judge:
                 yield from self.answers(files[at:at + size], files[at:at + size])
 
     def run(self, options: Sequence[str], paths: Sequence[str], seconds: float) -> Optional[Answered]:
-        """Returns the answer of a run, or None where it took more seconds than it has, or than are left for all."""
+        """Returns the answer of one run, or None if it took longer than `seconds` or than the time that is left in total.
+
+        Raises JudgeError and ProgramError.
+        """
         left = min(seconds, self._until - time.monotonic())
         if left <= 0:
             return None
@@ -111,7 +116,7 @@ class Judge:
         return read_answer(answer)
 
     def _in_parts(self, path: str) -> Answered:
-        """The answer for a file of which a whole run took too long."""
+        """The answer for a file that took too long as a whole, judged call by call."""
         try:
             text = Source(read_below(path, [path])).text
         except (OpenError, SourceError):
@@ -121,7 +126,7 @@ class Judge:
 
 
 class _Parts:
-    """A file whose calls are judged some at a time."""
+    """A file whose calls are judged in parts, in the copy `copy`."""
 
     def __init__(self, judge: Judge, path: str, text: str, copy: str) -> None:
         self.judge, self.path, self.copy = judge, path, copy
@@ -133,7 +138,7 @@ class _Parts:
         self.sites: List[Entry] = []
 
     def answer(self) -> Answered:
-        """The answer for the whole file."""
+        """The answer for the whole file; calls that aren't judged in time have an entry of the kind `time`."""
         found = self.judged([], self.seconds * QUICKLY)
         if found is None or not all(it.place and it.call for it in found.report.entries):
             return unjudged([Entry(self.path, "time")])
@@ -141,7 +146,7 @@ class _Parts:
         self.starts = [self.source.offset(it.place) for it in self.sites if it.place]
         numbers = list(range(len(self.sites)))
         answers: List[Answered] = []
-        # (the quick ones first, so that those which take long leave them their time)
+        # (the quick calls come first, so that the slow ones can't use up their time)
         for size, seconds in ((CALLS_OF_A_PART, self.seconds * QUICKLY), (1, self.seconds * QUICKLY), (1, self.seconds)):
             numbers = self.left_of(numbers, size, seconds, answers)
         if numbers:
@@ -152,7 +157,10 @@ class _Parts:
         return Answered(replace(whole.report, entries=entries), whole.status)
 
     def left_of(self, numbers: List[int], size: int, seconds: float, answers: List[Answered]) -> List[int]:
-        """Judges the calls of these numbers, so many at a time; adds the answers, and returns those that took too long."""
+        """Judges the calls with these numbers, `size` at a time; returns the numbers of those that took too long.
+
+        The answers of the others are added to `answers`.
+        """
         left: List[int] = []
         for at in range(0, len(numbers), size):
             part = numbers[at:at + size]
@@ -164,7 +172,7 @@ class _Parts:
         return left
 
     def judged(self, numbers: Sequence[int], seconds: float) -> Optional[Answered]:
-        """The answer for the file with only the literals of these calls as they are, or None where it takes too long."""
+        """The answer for these calls, with the literals of all others made trivial; None if relint takes too long."""
         with open(self.copy, "wb") as out:
             out.write(self.text_with(set(numbers)).encode("utf-8", "surrogatepass"))
         answer = self.judge.run(self.judge.options, [self.copy], min(self.until - time.monotonic(), seconds))
@@ -172,11 +180,14 @@ class _Parts:
             return None
         places = {self.sites[it].place for it in numbers}
         entries = [replace(it, path=self.path) for it in answer.report.entries if not numbers or it.place in places]
-        # (a trivial literal is no finding)
+        # (a trivial literal is never a finding)
         return Answered(report_of(entries, answer.report.findings, answer.report.version), answer.status)
 
     def text_with(self, numbers: "set[int]") -> str:
-        """The source with only the literals of these calls as they are: those from the place of one to that of the next."""
+        """The source with the literals of all other calls made trivial.
+
+        A literal belongs to the last call that begins before it ends.
+        """
         parts, at, call = [], 0, -1
         text = self.source.text
         for start, end in self.literals:
@@ -188,7 +199,10 @@ class _Parts:
 
 
 def literals(text: str) -> Iterator[Tuple[int, int]]:
-    """Yields the offsets between the quotes of each string literal of a source, as relint finds them."""
+    """Yields the span between the quotes of each string literal of a source, found in the same way as relint finds them.
+
+    Ends early at a literal without closing quotes.
+    """
     at = 0
     while True:
         found = TOKEN.search(text, at)
@@ -204,16 +218,18 @@ def literals(text: str) -> Iterator[Tuple[int, int]]:
 
 
 def trivial(inside: str) -> str:
-    """Returns what is put between a literal's quotes: as many characters with the line ends where they were, as a pattern
-    whose first branch is empty. So its steps have a bound, and hardly anything is left to judge."""
+    """Returns a trivial text to put between the quotes of a literal: of the same length, with the same line ends.
+
+    As a pattern, its first branch is empty, so it takes a bounded number of steps and is judged at once.
+    """
     made = ["|" if found.group(1) is None else found.group(1) for found in LETTER.finditer(inside)]
     front = made.index("|") + 1 if "|" in made else len(made)
-    # (between two bars is the empty branch, also where a line end is in front of them)
+    # (the empty branch is between two bars, even if a line end comes before them)
     front += made[front:front + 1] == ["|"]
     first = next((at for at in range(front, len(made) - 2) if made[at:at + 3] == ["|"] * 3), None)
     last = max((at for at, it in enumerate(made) if it == "|"), default=0)
     if first is not None and last > first + 2:
-        # (a comment takes no part of relint's limits)
+        # (characters in a comment don't count towards relint's limits)
         made[first:last + 1] = ["(?#", *("x" if it == "|" else it for it in made[first + 3:last]), ")"]
     return "".join(made)
 
@@ -224,13 +240,13 @@ def unjudged(entries: Sequence[Entry]) -> Answered:
 
 
 def report_of(entries: Sequence[Entry], findings: int, version: int) -> Report:
-    """Returns a report with these entries, of which so many are findings."""
+    """Returns a report with these entries; `findings` is how many of them are findings."""
     refused = sum(not it.is_judged() for it in entries)
     return Report(tuple(entries), findings, refused, sum(it.kind == "undecided" for it in entries), version)
 
 
 def joined(answers: Sequence[Answered]) -> Answered:
-    """Returns one answer for several, with the status that wins among theirs."""
+    """Returns one answer with the entries of several, and with the status that wins among theirs."""
     reports = [it.report for it in answers]
     whole = Report(
         tuple(entry for report in reports for entry in report.entries),
@@ -243,7 +259,7 @@ def joined(answers: Sequence[Answered]) -> Answered:
 
 
 def read_answer(answer: program.Answer) -> Answered:
-    """Returns the report that a run wrote. Raises JudgeError where it wrote none."""
+    """Returns the report that a run wrote, with the run's status. Raises JudgeError if it wrote none that can be read."""
     if answer.out and answer.status in STATUS_ORDER:
         try:
             return Answered(read_report(answer.out), answer.status)

@@ -1,7 +1,7 @@
-"""relint-many: runs `relint check` on all processors, and writes the bytes that one run writes.
+"""relint-many: runs `relint check` on all processors, and writes the same bytes as a single run.
 
-The files of the paths are listed by relint's own rules, and parts of the list are given to runs of relint that go on at the
-same time. Where the parts can't be joined to the same bytes, one run of relint judges the whole.
+It lists the files below the paths by relint's own rules, and gives parts of the list to several runs of relint at the same
+time. If their reports can't be joined to the same bytes, a single run judges the whole.
 """
 from __future__ import annotations
 
@@ -19,7 +19,7 @@ from .walking import NotListed, TooDeep, walk
 from .words import OPTIONS, refused
 
 TYPE_CHECKING = False
-if TYPE_CHECKING:  # (what takes long to import is imported where it is needed, and this is needed for types alone)
+if TYPE_CHECKING:  # (importing these takes long, and they are needed only for types)
     from types import FrameType
     from typing import Dict, Iterator, List, Optional, Sequence
 
@@ -40,25 +40,26 @@ Writes the report of `relint check` on the paths, but several runs make it at th
   --help         show this text
 """
 OWN_OPTIONS = ("--jobs", "--list", "--into", "--from")
-# The most bytes of a list of paths, and of a report to join.
+# The largest list of paths or report to join, in bytes.
 LARGEST = 1 << 30
-# What a file costs besides its bytes, in bytes, where lists of the same work are made.
+# The work for a file without its content, in bytes, when the work is divided evenly.
 COST_OF_A_FILE = 8192
 
 
 class WordsError(Exception):
-    """The words aren't a valid call, or name a file that can't be used; the message says why."""
+    """Raised if the command line isn't valid, or names a file that can't be used; the message says why."""
 
 
 class Stopped(BaseException):
-    """A signal asked for the end; its number is the argument."""
+    """Raised if a signal asks the tool to end; its number is the argument."""
 
 
 class Given:
-    """What the words ask for.
+    """What the command line asks for.
 
-    `own` holds the values of this tool's own options, and `relint` the words for relint, with their `options` and `paths`.
-    `plain` says that relint takes those words. If it doesn't, relint itself says why.
+    `own` has the values of this tool's own options. `relint` has the words for relint; `options` and `paths` are parsed from
+    them. `plain` says that relint accepts these words. If it isn't set, relint is run with them, and says why it refuses
+    them.
     """
 
     def __init__(self) -> None:
@@ -70,7 +71,7 @@ class Given:
         self.plain = True
 
     def number(self, option: str, default: int) -> int:
-        """Returns the number that an option of this tool was given. Raises WordsError where it is none from 1 on."""
+        """Returns the number that an option of this tool has. Raises WordsError if it isn't a number from 1 to 999999."""
         text = self.own.get(option, str(default))
         if not (text.isascii() and text.isdigit() and 1 <= int(text) <= 999_999):
             raise WordsError(f"{option} takes a number from 1 to 999999, not {text!r}")
@@ -78,7 +79,7 @@ class Given:
 
 
 def read_words(words: Sequence[str]) -> Given:
-    """Reads the words: this tool's options, and those of relint, which it takes as relint does."""
+    """Reads the command line: this tool's own options, and the words for relint, which are read as relint reads them."""
     given = Given()
     left = iter(words)
     for word in left:
@@ -103,6 +104,7 @@ def read_words(words: Sequence[str]) -> Given:
 
 
 def _take_option(given: Given, word: str, left: Iterator[str]) -> None:
+    """Adds an option of relint, with its value from the next word if it has none after `=`."""
     name, equals, value = word.partition("=")
     given.relint.append(word)
     if not equals:
@@ -123,7 +125,7 @@ def _is_utf8(word: str) -> bool:
 
 
 def check(given: Given) -> int:
-    """Writes the report on the paths, and returns the status of one run."""
+    """Writes the report on the paths, and returns the status that a single run has. Raises WordsError and ProgramError."""
     jobs = given.number("--jobs", len(os.sched_getaffinity(0)) if hasattr(os, "sched_getaffinity") else os.cpu_count() or 1)
     wrong = refused(given.relint, "--from" in given.own)
     if wrong:
@@ -136,7 +138,7 @@ def check(given: Given) -> int:
         return _one_run(ready, given, named, options)
     more = MORE_WITH_A_BASELINE if "--baseline" in given.options else 1
     try:
-        # (a baseline counts by path, so with one no path may come in two parts)
+        # (a baseline counts entries by path, so a path mustn't be in two parts)
         listed = walk(named, once="--baseline" in given.options)
         answer = run_parts([ready, "check", *options], listed, jobs, more)
     except (NotJoined, NotListed):
@@ -172,7 +174,7 @@ def _read_names(source: str) -> List[bytes]:
 
 
 def _can_be_read_again(given: Given) -> bool:
-    """Whether the settings and the baseline are plain files, which each run can read."""
+    """Whether the settings and the baseline are regular files, which every run can read, or missing."""
     for option in ("--settings", "--baseline"):
         path = given.options.get(option)
         try:
@@ -184,7 +186,10 @@ def _can_be_read_again(given: Given) -> bool:
 
 
 def ready_program() -> str:
-    """The program to run. The script of a clone builds it where need be as it is first asked; then it is the one behind it."""
+    """Returns the program to run.
+
+    In a clone, the script `relint` is asked once, so that it builds the program if need be; then the program itself is run.
+    """
     found = program()
     top, name = os.path.split(found)
     if name != "relint" or not os.path.isfile(os.path.join(top, "crates.txt")) or first_answer(found).err:
@@ -193,7 +198,7 @@ def ready_program() -> str:
 
 
 def _noted_program(top: str) -> Optional[str]:
-    """The program that the script of a clone noted as the one that it runs; None where it can't note it there."""
+    """The program that the script of a clone noted as the one that it runs; None if there is no such note."""
     folder = os.path.join(top, "crates", "relint", "out")
     try:
         with open(os.path.join(folder, "stamp"), encoding="utf-8") as stamp:
@@ -205,6 +210,7 @@ def _noted_program(top: str) -> Optional[str]:
 
 
 def _one_run(ready: str, given: Given, named: Sequence[bytes], options: Sequence[str]) -> int:
+    """Lets a single run of relint do everything, and returns its status."""
     if "--from" not in given.own:
         return _run_through([ready, "check", *given.relint])
     import tempfile
@@ -215,7 +221,7 @@ def _one_run(ready: str, given: Given, named: Sequence[bytes], options: Sequence
 
 
 def _run_through(words: Sequence[str]) -> int:
-    """Runs the program with this tool's own input and outputs."""
+    """Runs the program with this tool's own input and outputs, and returns its status. Raises ProgramError."""
     pid = 0
     try:
         with Held() as held:
@@ -231,6 +237,7 @@ def _run_through(words: Sequence[str]) -> int:
 
 
 def _write(answer: Answer) -> int:
+    """Writes an answer to both outputs, and returns its status, or WRITE_FAULT."""
     if answer.err:
         _write_to(2, answer.err)
     if not _write_to(1, answer.out):
@@ -240,6 +247,7 @@ def _write(answer: Answer) -> int:
 
 
 def _write_to(output: int, data: bytes) -> bool:
+    """Writes all bytes to an output; returns False if that fails."""
     left = memoryview(data)
     try:
         while left:
@@ -250,7 +258,7 @@ def _write_to(output: int, data: bytes) -> bool:
 
 
 def write_lists(given: Given) -> int:
-    """Writes the paths of the files to lists, and prints the names of the lists."""
+    """Writes the paths of the files to lists, prints the names of the lists, and returns 0. Raises WordsError."""
     if given.options or not given.paths or not given.plain:
         raise WordsError("--list takes paths and no options of relint: give those where the lists are checked")
     from pathlib import Path
@@ -279,6 +287,7 @@ def write_lists(given: Given) -> int:
 
 
 def _evenly(paths: Sequence[bytes], count: int) -> Iterator[List[bytes]]:
+    """Yields the paths in at most `count` parts of about the same work."""
     costs = [_cost(it) for it in paths]
     total, before = sum(costs), 0
     part: List[bytes] = []
@@ -294,6 +303,7 @@ def _evenly(paths: Sequence[bytes], count: int) -> Iterator[List[bytes]]:
 
 
 def _cost(path: bytes) -> int:
+    """The work for a file, in bytes."""
     try:
         found = os.lstat(path)
     except OSError:
@@ -302,7 +312,7 @@ def _cost(path: bytes) -> int:
 
 
 def join_reports(given: Given) -> int:
-    """Writes the one report that the reports join to, and returns its status as far as the reports show it."""
+    """Joins the reports, writes the result, and returns the status that the reports show. Raises WordsError."""
     if given.options or given.own or not given.paths:
         raise WordsError("--join takes reports and no options")
     pieces = [_read_piece(it) for it in given.paths]
@@ -326,13 +336,14 @@ def _stop(number: int, _: Optional[FrameType]) -> None:
 
 
 def _said(text: str) -> int:
-    """Writes what this tool says of itself to standard output, and returns the status."""
+    """Writes a text about this tool to standard output, and returns the status."""
     from .output import whole
 
     return whole("relint-many", text)
 
 
 def _act(given: Given) -> int:
+    """Does what the command line asks for, and returns the status."""
     if given.helps:
         return _said(USAGE)
     if given.asks_version:
@@ -349,9 +360,9 @@ def _act(given: Given) -> int:
 
 
 def main() -> int:
-    """Runs the tool on the words of the command line, and returns its status."""
+    """Runs the tool with the words of the command line, and returns its exit status."""
     for number in STOPPING:
-        # (one that was to be passed over from the start, as by nohup, stays so)
+        # (a signal that was ignored from the start, as under nohup, stays ignored)
         if signal.getsignal(number) != signal.SIG_IGN:
             signal.signal(number, _stop)
     try:

@@ -1,7 +1,7 @@
-"""Opens files below a folder: regular ones, reached without a link, of a size that is bounded, and never waiting for one.
+"""Opens files below a folder safely: only regular files of limited size that are reached without a link.
 
-A name in a report, or a name in a folder that others wrote, may be that of a link to a secret, of a device, or of a pipe that
-nobody writes to. What is opened is looked at once it is open, so a swap between the look and the read changes nothing.
+A name in a report, or in a folder that others wrote, may be that of a link to a secret, of a device, or of a pipe to which
+nobody writes. A file is checked after it was opened, so exchanging it between the check and the read changes nothing.
 """
 from __future__ import annotations
 
@@ -10,10 +10,10 @@ import os
 import stat
 
 TYPE_CHECKING = False
-if TYPE_CHECKING:  # (it takes as long to import as thousands of files take to list)
+if TYPE_CHECKING:  # (importing typing takes as long as listing thousands of files)
     from typing import List, Optional, Sequence, Tuple
 
-# A source with more bytes is refused by relint too.
+# The largest source in bytes, which is relint's limit too.
 LARGEST_SOURCE = 4_194_304
 HERE = (".",)
 READ_AT_A_TIME = 1 << 20
@@ -28,13 +28,13 @@ REASONS = {
 
 
 class OpenError(Exception):
-    """A file can't be opened, or may not be; the message says why, without the file's name."""
+    """Raised if a file can't or mustn't be opened; the message says why, without the file's name."""
 
 
 def names_below(path: str, folder: str) -> Optional[List[str]]:
-    """Returns the names that lead from a folder to a path, none for the folder itself; None where the path lies outside.
+    """Returns the names that lead from a folder to a path, none for the folder itself; None if the path lies outside.
 
-    Only the text of both counts: nothing is looked up.
+    Only the texts of both are compared; nothing is looked up.
     """
     if not path or "\0" in path:
         return None
@@ -46,12 +46,15 @@ def names_below(path: str, folder: str) -> Optional[List[str]]:
 
 
 def is_below(path: str, folders: Sequence[str]) -> bool:
-    """Returns whether a path is one of the folders or lies in one, by its text."""
+    """Returns whether a path is one of the folders or lies in one; only the texts are compared."""
     return any(names_below(path, it) is not None for it in folders)
 
 
 def open_folder(folder: str, names: Sequence[str]) -> int:
-    """Opens a folder that names lead to from another one, none of them a link; returns its number. Raises OSError."""
+    """Opens the folder to which the names lead from another folder, and returns its descriptor.
+
+    Raises OSError if it can't be opened, or if one of the names is a link.
+    """
     found = os.open(folder or os.curdir, FOLDER)
     for name in names:
         above = found
@@ -63,9 +66,10 @@ def open_folder(folder: str, names: Sequence[str]) -> int:
 
 
 def place_of(path: str, folders: Sequence[str]) -> Tuple[str, List[str]]:
-    """Returns a folder to open and the names from there to a path, at least one. Raises OpenError where the path lies in none.
+    """Returns a folder to open, and the names from there to the path, at least one.
 
-    The folder is one of those given, or the one that holds the path where the path itself is given.
+    The folder is one of those given or, if the path itself is among them, the folder that holds the path. Raises OpenError if
+    the path lies in none of the folders.
     """
     for folder in folders:
         names = names_below(path, folder)
@@ -77,9 +81,9 @@ def place_of(path: str, folders: Sequence[str]) -> Tuple[str, List[str]]:
 
 
 def read_below(path: str, folders: Sequence[str] = HERE, most: int = LARGEST_SOURCE) -> bytes:
-    """Returns the bytes of a file in one of the folders, or of one that is among them. Raises OpenError.
+    """Returns the bytes of a file that lies in one of the folders or is among them.
 
-    It has to be a regular file of at most so many bytes, and no name on the way from the folder to it may be a link.
+    Raises OpenError if it can't be read, isn't a regular file, has more than `most` bytes, or is reached by a link.
     """
     folder, names = place_of(path, folders)
     try:
@@ -93,8 +97,10 @@ def read_below(path: str, folders: Sequence[str] = HERE, most: int = LARGEST_SOU
 
 
 def read_named(path: str, most: int) -> bytes:
-    """Returns the bytes of a file that the user names, through links too. Raises OpenError where it isn't a regular one, or
-    has more bytes than that."""
+    """Returns the bytes of a file that the user names, which may be a link.
+
+    Raises OpenError if it can't be read, isn't a regular file, or has more than `most` bytes.
+    """
     try:
         file = os.open(path, FILE & ~os.O_NOFOLLOW)
         try:
@@ -107,15 +113,15 @@ def read_named(path: str, most: int) -> bytes:
 
 
 def reason(error: Exception) -> str:
-    """Returns in words why a file can't be opened."""
+    """Returns words for why a file can't be opened."""
     if isinstance(error, OSError):
         return REASONS.get(error.errno or 0, error.strerror or str(error))
     return str(error)
 
 
 def read_in(holder: int, name: str, most: int) -> bytes:
-    """Returns the bytes of a file of an open folder. Raises OSError, and OpenError as `read_below` does."""
-    # (a device isn't even opened, since that alone can do something)
+    """Returns the bytes of a file in an open folder. Raises OSError, and OpenError as `read_below` does."""
+    # (a device isn't even opened, since opening alone can have an effect)
     _check(os.stat(name, dir_fd=holder, follow_symlinks=False), most)
     file = os.open(name, FILE, dir_fd=holder)
     try:
@@ -135,7 +141,7 @@ def _check(found: os.stat_result, most: int) -> None:
 
 
 def read_all(file: int, most: int) -> bytes:
-    """Returns what an open file has, from where it stands. Raises OpenError where that is more than so many bytes."""
+    """Reads the rest of an open file, and returns it. Raises OpenError if that is more than `most` bytes."""
     parts: List[bytes] = []
     left = most + 1
     while left > 0:

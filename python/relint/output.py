@@ -1,4 +1,4 @@
-"""Writes to standard output, which may be closed, full, or a pipe that nobody reads: that is told in one line at most."""
+"""Writes to standard output. If it is closed, full, or a pipe that nobody reads, that is reported in at most one line."""
 from __future__ import annotations
 
 import os
@@ -9,11 +9,11 @@ from .program import WRITE_FAULT
 
 
 class Unwritten(Exception):
-    """Standard output takes nothing more; the message says why, and is empty if its reader has gone away, as `head` does."""
+    """Raised if standard output can't be written; the message says why, and is empty if the reader is gone, such as `head`."""
 
 
 def write(text: Union[str, bytes]) -> None:
-    """Writes to standard output: text with what it can't hold as escapes, or bytes as they are. Raises Unwritten."""
+    """Writes to standard output: bytes as they are, or text, with escapes for what can't be encoded. Raises Unwritten."""
     out = sys.stdout
     if out is None:
         raise Unwritten("it is closed")
@@ -30,7 +30,7 @@ def write(text: Union[str, bytes]) -> None:
 
 
 def flush() -> None:
-    """Hands on what was written to standard output so far. Raises Unwritten."""
+    """Flushes standard output. Raises Unwritten."""
     try:
         if sys.stdout is not None:
             sys.stdout.flush()
@@ -50,14 +50,14 @@ def _unwritten(error: Exception) -> Unwritten:
 
 
 def told(name: str, error: Unwritten) -> int:
-    """Says on standard error why the tool of this name can't write, if there is something to say; returns the status."""
+    """Says on standard error why the tool `name` can't write, unless the message is empty; returns the exit status."""
     if str(error):
         print(f"{name}: standard output can't be written: {error}", file=sys.stderr)
     return WRITE_FAULT
 
 
 def whole(name: str, text: str) -> int:
-    """Writes all that the tool of this name has to say, and returns its status."""
+    """Writes the whole output of the tool `name`, and returns the exit status."""
     try:
         write(text)
         flush()

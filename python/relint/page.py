@@ -1,4 +1,4 @@
-"""relint-page: a report of relint as one HTML file that needs nothing else."""
+"""relint-page: writes a report of relint as one HTML file that needs no other file."""
 from __future__ import annotations
 
 import argparse
@@ -37,32 +37,32 @@ LINK = re.compile(r"(?!(?:javascript|data|vbscript):)[a-z][a-z0-9+.-]*:[^\s\x00-
 
 
 def shown(text: str) -> str:
-    """Returns a text as markup that shows it: what can't be seen, or turns the direction of writing, is an escape."""
+    """Returns a text as markup. Characters that can't be seen, or that change the direction of writing, become escapes."""
     return escape(escaped(text, but="\n\t"), quote=True)
 
 
 def _pinned(text: str) -> str:
-    """The name by which the page's own rules allow a script or style: its hash."""
+    """The hash by which the policy of the page allows a script or style."""
     return "'sha256-" + base64.b64encode(hashlib.sha256(text.encode("utf-8")).digest()).decode("ascii") + "'"
 
 
 def _json(value: object) -> str:
-    """JSON that no browser reads as markup or as the end of a script."""
+    """A value as JSON that no browser can take for markup or for the end of a script."""
     text = json.dumps(value, separators=(",", ":"), ensure_ascii=True)
     return text.replace("&", "\\u0026").replace("<", "\\u003c").replace(">", "\\u003e")
 
 
 class Link:
-    """The address that opens a place in an editor, where the user named one."""
+    """Makes links that open a place in an editor, if the user gave a form for them."""
 
     def __init__(self, form: Optional[str]) -> None:
-        """Takes a form such as vscode://file/{path}:{line}:{column}. Raises GatherError where it is none."""
+        """Takes a form such as vscode://file/{path}:{line}:{column}. Raises GatherError if it isn't an address."""
         if form is not None and not LINK.fullmatch(form):
             raise gather.GatherError("--link wants an address with a scheme, such as 'vscode://file/{path}:{line}:{column}'")
         self.form = form
 
     def __call__(self, entry: Entry, words: str) -> str:
-        """Returns markup for the words, as a link where there is a form."""
+        """Returns markup for the words, as a link if there is a form."""
         if self.form is None or entry.place is None:
             return f'<span class="mono">{shown(words)}</span>'
         path = quote(os.path.abspath(entry.path).encode("utf-8", "surrogateescape"))
@@ -79,7 +79,7 @@ def place_words(entry: Entry) -> str:
 
 
 def _inside(text: str, start: int, spans: Sequence[Tuple[int, int]], tag: str) -> str:
-    """A piece of a source, which begins at an offset, with the parts of it that spans cover in a tag."""
+    """A piece of a source as markup, with the parts inside the spans in a tag. The piece begins at the offset `start`."""
     parts, at = [], 0
     for first, last in sorted(spans):
         low, high = max(first - start, at), min(last - start, len(text))
@@ -90,7 +90,7 @@ def _inside(text: str, start: int, spans: Sequence[Tuple[int, int]], tag: str) -
 
 
 def _marked(source: Source, number: int, literals: Sequence[Tuple[int, int]], faults: Sequence[Tuple[int, int]]) -> str:
-    """A line of a source with its literals marked, and the parts at fault inside them."""
+    """A line of a source as markup, with its literals and the parts at fault in them marked."""
     start = source.offset(Place(number, 1))
     text = source.line(number)
     parts, at = [], 0
@@ -103,7 +103,7 @@ def _marked(source: Source, number: int, literals: Sequence[Tuple[int, int]], fa
 
 
 def _cut(text: str) -> str:
-    """A piece of a line beside a literal, without what would make the line endless."""
+    """A piece of a line outside of literals as markup; its middle is left out if it is very long."""
     if len(text) <= MOST_CODES_OF_A_LINE:
         return shown(text)
     return shown(text[:MOST_CODES_OF_A_LINE // 2]) + " .. " + shown(text[-MOST_CODES_OF_A_LINE // 2:])
@@ -186,14 +186,14 @@ def _sentence(words: str) -> str:
 
 
 def _beyond_badge(entry: Entry) -> str:
-    """What an entry of relint-wide has in place of a proof; nothing for others."""
+    """The badge that says how relint-wide found an entry; "" for an entry of relint."""
     if entry.beyond is None:
         return ""
     return f'<span class="origin">{shown(KIND_WORDS[entry.beyond.kind])}, {rules.code(entry)}</span>'
 
 
 def _beyond_words(found: Finding) -> Iterator[str]:
-    """The pattern of an entry of relint-wide, and where it comes from."""
+    """Yields the markup for the pattern of an entry of relint-wide, and where it comes from; nothing for other entries."""
     beyond = found.entry.beyond
     if beyond is None:
         return
@@ -205,7 +205,7 @@ def _beyond_words(found: Finding) -> Iterator[str]:
 
 
 def card(found: Finding, number: int, link: Link, compile_as: str) -> str:
-    """Returns the card of a finding; `compile_as` is the mode that compile has in the report."""
+    """Returns the card of a finding; `compile_as` is the mode in which the report judges `compile`."""
     entry, verdict = found.entry, found.judged.verdict()
     kind = "exponential" if found.judged.kind == "exponential" else "degree"
     is_beyond = f" {entry.beyond.kind}" if entry.beyond else ""
@@ -235,7 +235,7 @@ def _count(number: int, name: str, target: str, kind: str) -> str:
 
 
 def _counts(entries: Sequence[Entry], found: Sequence[Finding], unused: int) -> str:
-    """The counts at the top, of the entries and of the findings among them, each by its class as used."""
+    """The counts at the top of the page. A finding counts by its class under the uses of its pattern."""
     entries, own = own_of(entries), own_of([it.judged for it in found if it.entry.beyond is None])
     kinds = Counter(it.entry.beyond.kind for it in found if it.entry.beyond is not None)
     exponential = sum(it.kind == "exponential" for it in own)
@@ -254,7 +254,7 @@ def _counts(entries: Sequence[Entry], found: Sequence[Finding], unused: int) -> 
 
 
 def _list(items: Sequence[str]) -> str:
-    """A list of the first items, which are markup."""
+    """A list of the first MOST_PLACES items, which are markup."""
     found = [f"<li>{it}</li>" for it in items[:MOST_PLACES]]
     if len(items) > MOST_PLACES:
         found.append(f"<li>and {len(items) - MOST_PLACES:,} more, in the table below</li>")
@@ -266,7 +266,7 @@ def _places(entries: Sequence[Entry], link: Link) -> str:
 
 
 def _unused(found: Sequence[Finding], link: Link, compile_as: str) -> str:
-    """The group of the findings that no use reaches; nothing if there is none."""
+    """The section of the findings that no use reaches; "" if there are none."""
     if not found:
         return ""
     items = [f"{link(it.entry, place_words(it.entry))} <code>{shown(it.entry.call or '')}</code>: "
@@ -276,16 +276,19 @@ def _unused(found: Sequence[Finding], link: Link, compile_as: str) -> str:
 
 
 def _group(name: str, words: str, page: str, entries: Sequence[Entry], link: Link) -> str:
+    """A group of entries with the same cause or limit, below a heading that says what it means."""
     helps = f' <span class="muted">See {escape(page)}.</span>' if page else ""
     return (f'<details class="cause"><summary><b>{len(entries):,}</b> {shown(name)}: {shown(words)}.{helps}</summary>'
             f"{_places(entries, link)}</details>")
 
 
 def _folded(name: str, title: str, body: str) -> str:
+    """A section that is folded until the reader opens it."""
     return f'<details class="folded" id="{name}"><summary><h2>{title}</h2></summary><div>{body}</div></details>\n'
 
 
 def _refused(entries: Sequence[Entry], link: Link) -> str:
+    """The section of the entries that weren't analysed, by cause."""
     by_cause: Dict[str, List[Entry]] = {}
     for entry in entries:
         cause = plain.not_analysed(entry)
@@ -300,6 +303,7 @@ def _refused(entries: Sequence[Entry], link: Link) -> str:
 
 
 def _undecided(entries: Sequence[Entry], link: Link) -> str:
+    """The section of the undecided entries, by limit."""
     by_limit: Dict[str, List[Entry]] = {}
     for entry in entries:
         if entry.kind == "undecided":
@@ -321,9 +325,9 @@ class _Names:
 
 
 def table_data(entries: Sequence[Entry], unused: Sequence[Entry] = ()) -> Dict[str, object]:
-    """Returns what the page's table is drawn from: names once, and for each entry the numbers of its own.
+    """Returns the data from which the page draws its table: each name once, and a row of numbers for each entry.
 
-    Each of the `unused` ones is among the entries.
+    `unused` are those of the entries that no use reaches.
     """
     paths, calls, kinds = _Names(), _Names(), _Names()
     apart = {id(it) for it in unused}
@@ -343,7 +347,7 @@ def table_data(entries: Sequence[Entry], unused: Sequence[Entry] = ()) -> Dict[s
 
 
 def _kind(entry: Entry) -> str:
-    """Returns what the table shows of an entry in its column Class: the class, or why it wasn't analysed."""
+    """The text for an entry in the column Class of the table: its class, or why it wasn't analysed."""
     verdict = entry.verdict()
     if verdict:
         return (f"{KIND_WORDS[entry.beyond.kind]}: " if entry.beyond else "") + plain.class_word(verdict)
@@ -366,6 +370,7 @@ TABLE = """
 
 
 def _cards(found: Sequence[Finding], all_found: int, link: Link, compile_as: str) -> str:
+    """The cards of these findings: first those of relint, then those of relint-wide by kind."""
     if not all_found:
         return "<p>No finding: no pattern that was analysed is above the limit.</p>"
     kinds = [it.entry.beyond.kind if it.entry.beyond else "" for it in found]
@@ -381,7 +386,7 @@ def _cards(found: Sequence[Finding], all_found: int, link: Link, compile_as: str
 
 
 def _head(title: str, findings_counted: str) -> str:
-    """Returns the page up to the end of its head. Its policy allows only the page's own style and script."""
+    """The page up to the end of its head. Its policy allows only the page's own style and script."""
     allowed = f"style-src {_pinned(STYLE)}; script-src {_pinned(SCRIPT)}"
     policy = f"default-src 'none'; {allowed}; base-uri 'none'; form-action 'none'"
     return (
@@ -394,7 +399,7 @@ def _head(title: str, findings_counted: str) -> str:
 
 
 def _unlooked(given: gather.Gathered) -> str:
-    """What lies there and isn't looked at, as a sentence."""
+    """A sentence that says what wasn't looked at; "" if there is nothing to say."""
     words = given.selection.unlooked() if given.selection else ""
     return f" {words[0].upper()}{words[1:]}." if words else ""
 
@@ -428,7 +433,7 @@ def page(given: gather.Gathered, looked: Looked, most: int, link: Link, title: s
 
 
 def parser() -> Parser:
-    """Returns the reader of the tool's words."""
+    """Returns the parser of the tool's command line."""
     found = Parser("relint-page", "Writes the report of relint check as one HTML page that needs no other file.",
                    "The exit status is 0 if the page was written, even if it shows findings, 3 if it was written but "
                    "something couldn't be read or wasn't judged in time; otherwise 2 to 6.")
@@ -460,7 +465,7 @@ def _work(words: argparse.Namespace) -> int:
 
 
 def main(words: Optional[Sequence[str]] = None) -> int:
-    """Runs the tool with the words of the command line, and answers the exit status."""
+    """Runs the tool with the words of the command line, and returns the exit status."""
     given = gather.parsed(parser(), words)
     return gather.ended("relint-page", lambda: _work(given))
 

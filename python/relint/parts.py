@@ -1,4 +1,4 @@
-"""Runs of relint that go on at the same time, each on a part of the paths, with a progress line on a terminal."""
+"""Runs relint on parts of the paths, several runs at the same time, with a progress line on a terminal."""
 from __future__ import annotations
 
 import errno
@@ -12,30 +12,31 @@ from .program import Answer, ProgramError
 from .spawning import Held, end, spawn_piped
 
 TYPE_CHECKING = False
-if TYPE_CHECKING:  # (it takes as long to import as thousands of files take to list)
+if TYPE_CHECKING:  # (importing typing takes as long as listing thousands of files)
     from typing import Dict, Iterable, List, Optional, Sequence, Tuple
 
-# A part holds at most so many files, and names of so many bytes.
+# The largest number of files in a part, and of bytes in their names.
 FILES_OF_A_PART, NAMES_OF_A_PART = 512, 100_000
-# The first parts are smaller, so that all runs begin at once; while files are still listed, the next parts grow so much.
+# The first parts are smaller, so that all runs begin at once. While files are still being listed, parts grow by the factor
+# GROWTH each time every run has had one.
 FILES_OF_THE_FIRST, GROWTH = 16, 4
-# Once all files are listed, a part is what is left, cut in so many for each run: so all runs end at about the same time. Parts
-# are no smaller than so many files, since to begin a run takes as long as to judge two or three.
+# Once all files are listed, the rest is cut into SHARES parts for each run, so that all runs end at about the same time. A
+# part has at least LEAST_OF_A_PART files, since starting a run takes as long as judging two or three.
 SHARES, LEAST_OF_A_PART = 2, 16
-# Each run reads the baseline anew, so with one the parts hold so many times more.
+# Each run has to read the baseline, so parts are larger by this factor if there is one.
 MORE_WITH_A_BASELINE = 8
 SHOWN_EVERY = 0.1
 READ_AT_A_TIME = 1 << 16
-# What the system says where it has no room for one more run.
+# The errors by which the system says that it has no room for one more run.
 NO_ROOM = (errno.EMFILE, errno.ENFILE, errno.EAGAIN, errno.ENOMEM)
 
 
 class NotJoined(Exception):
-    """The parts can't be joined to the bytes of one run."""
+    """Raised if the reports on the parts can't be joined to the bytes that a single run writes."""
 
 
 class Result:
-    """What a run over a part gave; `piece` is None where it wrote nothing."""
+    """The result of a run over a part; `piece` is None if the run wrote no report."""
 
     __slots__ = ("status", "piece", "err")
 
@@ -44,7 +45,7 @@ class Result:
 
 
 class Run:
-    """A run over a part, which has the given place among the parts: what it wrote, and how many of its outputs are open."""
+    """A run over a part: the number of the part, what the run wrote so far, and how many of its outputs are open."""
 
     __slots__ = ("place", "files", "pid", "out", "err", "open")
 
@@ -55,7 +56,7 @@ class Run:
 
 
 class Progress:
-    """A line on standard error that says how far the work is; where that is no terminal, nothing is written."""
+    """Shows a line on standard error that says how far the work is, if standard error is a terminal."""
 
     def __init__(self) -> None:
         self.is_shown = sys.stderr is not None and sys.stderr.isatty()
@@ -63,7 +64,7 @@ class Progress:
         self._next = self._began
 
     def show(self, done: int, total: Optional[int], findings: int) -> None:
-        """Shows the counts; `total` is None while the files are still being listed."""
+        """Shows the counts, unless they were shown a moment ago. `total` is None while files are still being listed."""
         if not self.is_shown:
             return
         now = time.monotonic()
@@ -78,7 +79,7 @@ class Progress:
         self._write(f"relint-many: {done:,} of {total:,} files, {found}{left}")
 
     def clear(self) -> None:
-        """Takes the line away."""
+        """Removes the line."""
         if self.is_shown:
             self._write("")
 
@@ -92,10 +93,10 @@ class Progress:
 
 
 class Runs:
-    """Takes paths, and runs the program on parts of them, so many at a time as it was told."""
+    """Runs the program on parts of the paths that it is given, with at most `jobs` runs at a time."""
 
     def __init__(self, start: Sequence[str], jobs: int, more: int) -> None:
-        """`start` is the program with the words that stand before the paths; parts may be `more` times as large as else."""
+        """Takes the program with the words that come before the paths. Parts are `more` times as large as usual."""
         self.results: Dict[int, Result] = {}
         self.done = self.findings = 0
         self.is_over = False
@@ -109,14 +110,15 @@ class Runs:
         self._environment = dict(os.environb)
 
     def add(self, paths: Sequence[bytes]) -> None:
-        """Takes paths that come behind all before."""
+        """Adds paths after those that were added before."""
         self._paths += paths
 
     def go_on(self, is_listed: bool, wait: Optional[float]) -> bool:
-        """Reads what the runs wrote, waiting for it at most so many seconds, and begins new ones; returns whether any goes on.
+        """Reads what the runs wrote, and starts new runs; returns whether any is still running.
 
-        `is_listed` says that no paths are to come. Where a run wrote nothing it is over: none of the others can matter. Raises
-        ProgramError where a run can't be started or was ended, and NotJoined where one gave no report.
+        It waits for output for at most `wait` seconds, or as long as it takes if `wait` is None. `is_listed` says that no more
+        paths will be added. If a run wrote no report, everything is over, since the other runs don't matter then. Raises
+        ProgramError if a run can't be started or was ended by a signal, and NotJoined if a report can't be joined.
         """
         if self._outputs:
             for output, _ in self._poll.poll(None if wait is None else wait * 1000):
@@ -128,14 +130,14 @@ class Runs:
         return bool(self._running) and not self.is_over
 
     def stop(self) -> None:
-        """Ends all runs that go on."""
+        """Ends all runs that are still running."""
         end([it.pid for it in self._running])
         for output in self._outputs:
             os.close(output)
         self._running, self._outputs = [], {}
 
     def _next_part(self, is_listed: bool) -> List[bytes]:
-        """Returns the next part, or none where the files for it aren't listed yet."""
+        """Returns the next part, or an empty list if there are no paths left or not enough of them yet."""
         left = len(self._paths) - self._given
         if is_listed:
             size = max(-(-left // (self._jobs * SHARES)), LEAST_OF_A_PART * self._more)
@@ -150,7 +152,10 @@ class Runs:
         return part
 
     def _begin(self, part: List[bytes]) -> bool:
-        """Begins a run over the part; returns False where there is no room for one more beside those that go on."""
+        """Starts a run over the part; returns False if the system has no room for one more run.
+
+        Raises ProgramError if the program can't be run, and NotJoined if the names are too long for one run.
+        """
         run = Run(self._parts, len(part))
         try:
             with Held() as held:
@@ -171,6 +176,7 @@ class Runs:
         return True
 
     def _read(self, output: int) -> None:
+        """Reads from an output that has something to read or is at its end."""
         run, kept = self._outputs[output]
         data = os.read(output, READ_AT_A_TIME)
         if data:
@@ -184,7 +190,7 @@ class Runs:
             self._take(run)
 
     def _take(self, run: Run) -> None:
-        """Takes what a run gave that closed its outputs."""
+        """Takes the result of a run that has closed both outputs."""
         _, status = os.waitpid(run.pid, 0)
         self._running.remove(run)
         if os.WIFSIGNALED(status):
@@ -203,10 +209,10 @@ class Runs:
 
 
 def run_parts(start: Sequence[str], listed: Iterable[List[bytes]], jobs: int, more: int) -> Answer:
-    """Runs the program over all paths, and returns what one run answers, with no output where there are no paths.
+    """Runs the program over all paths in parts, and returns the answer of a single run; without output if there are no paths.
 
-    The runs begin while paths are still listed. Raises NotJoined where that can't be had from parts, ProgramError where the
-    program can't be run, and what the iterator of the paths raises.
+    Runs begin while paths are still being listed. Raises NotJoined if the answer can't be put together from the parts,
+    ProgramError if the program can't be run, and whatever the iterator of the paths raises.
     """
     progress = Progress()
     runs = Runs(start, jobs, more)
@@ -230,6 +236,7 @@ def run_parts(start: Sequence[str], listed: Iterable[List[bytes]], jobs: int, mo
 
 
 def _joined(results: Sequence[Result]) -> Answer:
+    """The answer of a single run, from the results of the parts in order. Raises NotJoined."""
     err = next((it.err for it in results if it.err), b"")
     silent = [it.status for it in results if it.piece is None]
     if silent or not results:

@@ -1,4 +1,4 @@
-"""Classes, causes and figures in plain words, and the Python code that shows a slow match."""
+"""Puts classes, causes and figures into plain words, and makes Python code that shows a slow match."""
 from __future__ import annotations
 
 import shlex
@@ -18,7 +18,7 @@ MOST_SPELLED_OUT = 40
 
 
 def counted(number: int, one: str, many: str = "") -> str:
-    """Returns the number with its word, as "1 finding" or "2,000 findings"."""
+    """Returns the number with its word, such as "1 finding" or "2,000 findings"."""
     return f"{number:,} {one if number == 1 else many or one + 's'}"
 
 
@@ -37,13 +37,13 @@ def big(number: int) -> str:
 
 
 def times(rate: float) -> str:
-    """Returns by how much something grows, as "4 times" or "2.4 times"."""
+    """Returns words for a factor, such as "4 times" or "2.4 times"."""
     near = round(rate)
     return f"{near:,} times" if abs(rate - near) < 0.05 or rate >= 10 else f"{rate:.1f} times"
 
 
 def class_word(verdict: Verdict) -> str:
-    """Returns the class in a word or two, as "cubic (degree 3)"."""
+    """Returns the class in a word or two, such as "cubic (degree 3)"."""
     if verdict.kind != "degree" or verdict.degree is None:
         return verdict.words()
     name = NAMES_OF_DEGREES.get(verdict.degree)
@@ -51,12 +51,12 @@ def class_word(verdict: Verdict) -> str:
 
 
 def codes(count: int, value: Optional[Text]) -> str:
-    """Returns a count of characters, or of bytes for a bytes pattern."""
+    """Returns the count with "characters", or with "bytes" if the pattern `value` is bytes."""
     return counted(count, "byte" if isinstance(value, bytes) else "character")
 
 
 def growth_words(verdict: Verdict) -> str:
-    """Returns what a class says of growth, where no figure is at hand."""
+    """Returns words for how the steps grow in a class, without figures."""
     if verdict.kind == "exponential":
         return "every few characters more double the steps"
     if verdict.kind == "degree" and verdict.degree is not None:
@@ -71,14 +71,14 @@ def growth_words(verdict: Verdict) -> str:
 
 
 def listed(parts: Sequence[str], most: int = 4) -> str:
-    """Returns the parts as a list in words, as "a, b and c"."""
+    """Returns the parts as a list in words, such as "a, b and c"."""
     if len(parts) > most:
         return ", ".join(parts[:most]) + " and others"
     return " and ".join([", ".join(parts[:-1]), parts[-1]] if len(parts) > 1 else parts)
 
 
 def exponential_fault(outer: str, inner: Optional[str], text: str) -> str:
-    """Returns why a loop is exponential, by a loop inside it that takes the same text, in one sentence."""
+    """Returns a sentence that says why the loop `outer` is exponential; `inner` is a loop in it that matches `text` too."""
     if inner is None:
         return f"the loop {outer} can go over {text} in several ways, and each repeat of the text multiplies them"
     loops = f"the loop {outer} and the loop {inner} inside it"
@@ -86,7 +86,7 @@ def exponential_fault(outer: str, inner: Optional[str], text: str) -> str:
 
 
 def polynomial_fault(loops: Sequence[str], text: str, is_shared: bool, is_search: bool) -> str:
-    """Returns why loops cost a power of the length, in one sentence; `is_shared` says that each of them takes the text."""
+    """Returns a sentence that says why loops cost a power of the length; `is_shared` says that all of them match `text`."""
     if len(loops) > 1:
         shared = f"such as {text}, " if is_shared else ""
         return f"the loops {listed(loops)} share characters, {shared}so a run of them can be divided in many ways"
@@ -96,7 +96,7 @@ def polynomial_fault(loops: Sequence[str], text: str, is_shared: bool, is_search
 
 
 def not_analysed(entry: Entry) -> Optional[str]:
-    """Returns the cause for which an entry has no class, or None where it has one or is undecided."""
+    """Returns the cause for which an entry has no verdict, or None if it has one, which may be undecided."""
     if entry.is_judged():
         return None
     return entry.cause if entry.kind == "refused" else entry.kind
@@ -116,7 +116,7 @@ def outcome_words(entry: Entry) -> str:
 
 
 def causes(entries: Tuple[Entry, ...]) -> List[Tuple[str, int]]:
-    """Returns the causes for which entries have no class, each with its count, the most frequent first."""
+    """Returns the causes for which entries have no verdict, each with its count, the most frequent first."""
     found: Dict[str, int] = {}
     for entry in entries:
         cause = not_analysed(entry)
@@ -126,7 +126,7 @@ def causes(entries: Tuple[Entry, ...]) -> List[Tuple[str, int]]:
 
 
 def limits(entries: Tuple[Entry, ...]) -> List[Tuple[str, int]]:
-    """Returns the limits over which entries are undecided, as "pairs over 600", each with its count."""
+    """Returns the limits for which entries are undecided, such as "pairs over 600", each with its count."""
     found: Dict[str, int] = {}
     for entry in entries:
         if entry.kind == "undecided":
@@ -147,7 +147,7 @@ def _escaped(code: int, is_bytes: bool) -> str:
 
 
 def quoted(text: Text) -> str:
-    """Returns a Python literal of the text, in ASCII on one line: raw where it has a backslash and needs no escape."""
+    """Returns a Python literal for the text, in ASCII on one line. It is raw if it has a backslash and needs no escape."""
     is_bytes = isinstance(text, bytes)
     found = [it if isinstance(it, int) else ord(it) for it in text]
     mark = "b" if is_bytes else ""
@@ -155,7 +155,7 @@ def quoted(text: Text) -> str:
         written = "".join(map(chr, found))
         if visible(written) == written:
             return f'{mark}{"r" if 0x5C in found else ""}"{written}"'
-    # (what a build server would obey is written otherwise too)
+    # (a text that a build server would take for a command is escaped too)
     return f'{mark}"{visible("".join(_escaped(it, is_bytes) for it in found))}"'
 
 
@@ -180,7 +180,7 @@ def family_words(family: Family) -> str:
 
 
 def flags_code(flags: int) -> str:
-    """Returns the flags of a call as code, as ", re.I | re.M", or nothing where none are set."""
+    """Returns the flags of a call as code, as ", re.I | re.M", or nothing if none are set."""
     names = code(flags)
     return f", {names}" if names else ""
 

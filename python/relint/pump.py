@@ -1,4 +1,4 @@
-"""The part of a pattern where a family's repeated text lies, as far as relint itself can tell."""
+"""Finds the parts of a pattern that match the repeated texts of a family, by asking relint."""
 from __future__ import annotations
 
 import re
@@ -23,7 +23,10 @@ MOST_PARTS = 40
 
 @dataclass(frozen=True)
 class Part:
-    """A part of a pattern repeated without a bound: its ends, its quantifier's beginning, and the groups with flags around."""
+    """A part of a pattern that repeats without a bound: where it and its quantifier begin, and where both end.
+
+    `around` are the openings of the groups with flags that it is in.
+    """
 
     start: int
     end: int
@@ -32,7 +35,7 @@ class Part:
 
 
 class _Scan:
-    """Reads a pattern that relint has judged, and collects its repeated parts."""
+    """Scans a pattern that relint has judged, and collects its parts that repeat without a bound."""
 
     def __init__(self, pattern: str, verbose: bool) -> None:
         self.pattern, self.at = pattern, 0
@@ -95,12 +98,16 @@ class _Scan:
 
 
 def repeated_parts(pattern: str, verbose: bool) -> Tuple[str, Sequence[Part]]:
-    """Returns the letters of a judged pattern's front flags, and its parts that repeat without a bound, shortest first."""
+    """Returns the letters of the flags in front of a pattern, and its parts that repeat without a bound, shortest first.
+
+    The pattern must be one that relint has judged; for others it may raise IndexError or RecursionError.
+    """
     scan = _Scan(pattern, verbose)
     return scan.front, sorted(scan.parts, key=lambda it: (it.end - it.start, it.start))
 
 
 def _rotated(pump: Text) -> List[Text]:
+    """The text with each of its characters in turn as the first, or only the text itself if it is long."""
     if len(pump) > LONGEST_ROTATED:
         return [pump]
     twice = pump * 2
@@ -108,7 +115,7 @@ def _rotated(pump: Text) -> List[Text]:
 
 
 class _Asked:
-    """Questions on parts of one pattern."""
+    """Asks relint questions about parts of one pattern."""
 
     def __init__(self, meter: Meter, pattern: Text, flags: int) -> None:
         self.meter, self.flags, self.is_bytes = meter, flags, isinstance(pattern, bytes)
@@ -117,12 +124,13 @@ class _Asked:
         self.parts = parts[:MOST_PARTS]
 
     def word(self, part: Part) -> Optional[str]:
+        """The part as a pattern by itself, for relint's command line; None if there is none."""
         front = f"(?{self.front})" if self.front else ""
         text = front + "".join(part.around) + self.text[part.start:part.end] + ")" * len(part.around)
         return as_word(text.encode("latin-1") if self.is_bytes else text, self.flags)
 
     def bounded(self, part: Part) -> Optional[str]:
-        """The whole pattern with a bound on this part's repeats."""
+        """The whole pattern with a bound on the repetitions of this part; None if it can't be given to relint."""
         quantifier = self.text[part.quantifier:part.end]
         least = quantifier[1:quantifier.index(",")] if quantifier[0] == "{" else "1" if quantifier[0] == "+" else "0"
         bound = "?" if least in ("", "0") else f"{{{least}}}"
@@ -130,7 +138,7 @@ class _Asked:
         return as_word(text.encode("latin-1") if self.is_bytes else text, self.flags)
 
     def takes(self, word: str, texts: Sequence[Text]) -> bool:
-        """Whether the part matches one of the texts, each twice in a row."""
+        """Whether the pattern `word` matches one of the texts, repeated twice."""
         for text in texts:
             found = self.meter.cost(word, "fullmatch", text * 2)
             if found and found[1]:
@@ -141,11 +149,11 @@ class _Asked:
 def culprits(
     meter: Meter, pattern: Text, flags: int, mode: str, verdict: Verdict, family: Family,
 ) -> Tuple[Tuple[int, int], ...]:
-    """Returns the parts of a pattern where the family's repeated texts lie, as positions in the pattern, or none.
+    """Returns the parts at fault of a pattern, as spans in the pattern; none if they can't be told.
 
-    For an exponential pattern it is the shortest repeated part that is exponential by itself and takes the repeated text.
-    For a degree these are the parts that take one of the repeated texts, and without whose repeats the degree is lower.
-    Each of this is asked of relint, so nothing is guessed; where the answers don't tell, there is no part.
+    For an exponential pattern, this is the shortest repeated part that is exponential by itself and matches a repeated text of
+    the family. For a degree, these are the parts that match a repeated text, and whose repetition raises the degree. relint is
+    asked about each of these facts, so nothing is guessed.
     """
     try:
         asked = _Asked(meter, pattern, flags)
@@ -159,7 +167,7 @@ def culprits(
 def inner_loop(
     meter: Meter, pattern: Text, flags: int, family: Family, outer: Tuple[int, int],
 ) -> Optional[Tuple[int, int]]:
-    """Returns the shortest repeated part inside an exponential one that takes the repeated text too, or None."""
+    """Returns the shortest repeated part inside an exponential one that also matches a repeated text, or None."""
     asked = _Asked(meter, pattern, flags)
     for part in asked.parts:
         if outer[0] <= part.start and part.end <= outer[1] and (part.start, part.end) != outer:
@@ -172,7 +180,7 @@ def inner_loop(
 def shared_text(
     meter: Meter, pattern: Text, flags: int, family: Family, parts: Sequence[Tuple[int, int]],
 ) -> Optional[Text]:
-    """Returns a repeated text of the family that each of these parts takes, or None."""
+    """Returns a repeated text of the family that all of these parts match, or None."""
     asked = _Asked(meter, pattern, flags)
     words = [asked.word(it) for it in asked.parts if (it.start, it.end) in parts]
     for text in (it for it in family.pumps if it):
@@ -182,6 +190,7 @@ def shared_text(
 
 
 def _exponential(asked: _Asked, family: Family) -> Tuple[Tuple[int, int], ...]:
+    """The span of the part at fault in an exponential pattern, or none."""
     for part in asked.parts:
         word = asked.word(part)
         if word is None or asked.meter.verdict(word, "fullmatch") != "exponential":
@@ -192,6 +201,7 @@ def _exponential(asked: _Asked, family: Family) -> Tuple[Tuple[int, int], ...]:
 
 
 def _overlapping(asked: _Asked, mode: str, degree: int, family: Family) -> Tuple[Tuple[int, int], ...]:
+    """The spans of the parts at fault in a pattern of this degree."""
     found: List[Part] = []
     for part in asked.parts:
         if any(part.start <= it.start and it.end <= part.end for it in found):
@@ -205,5 +215,6 @@ def _overlapping(asked: _Asked, mode: str, degree: int, family: Family) -> Tuple
 
 
 def _is_lower(line: str, degree: int) -> bool:
+    """Whether a verdict line of relint gives a degree below this one."""
     found = re.fullmatch(r"degree (\d+)", line)
     return found is not None and int(found.group(1)) < degree

@@ -18,7 +18,7 @@ from .used.classes import UNUSED
 from .writing import visible
 
 ERROR, WARNING, INFORMATION, HINT = 1, 2, 3, 4
-# Of so many findings, the worst, the growth and a fix are found out; the others have their class.
+# For this many of the worst findings, the growth and a fix are shown too. For the others, only the class is shown.
 MOST_IN_FULL = 20
 MOST_BUFFERS = 8
 NAME = "relint"
@@ -26,7 +26,7 @@ NAME = "relint"
 
 @dataclass(frozen=True)
 class Kept:
-    """What was found for a text: None where the configuration leaves it out, or the reason why there is no answer."""
+    """What was found for a text, or why there is no answer. `found` is also None if the configuration leaves the file out."""
 
     text: str
     found: Optional[buffers.Judged]
@@ -34,14 +34,14 @@ class Kept:
 
 
 class Buffers:
-    """What was found for the last buffers."""
+    """Judges buffers, and keeps what was found for the last ones."""
 
     def __init__(self) -> None:
         self._kept: Dict[str, Kept] = {}
         self._lock = threading.Lock()
 
     def judged(self, document: Any, anew: bool) -> Kept:
-        """Returns what is found for a document's text as it is once those that were asked before are done."""
+        """Returns what is found for the text that a document has once all earlier requests are done."""
         with self._lock:
             text = str(document.source)
             kept = self._kept.get(document.uri)
@@ -54,7 +54,7 @@ class Buffers:
             return kept
 
     def known(self, document: Any) -> Optional[buffers.Judged]:
-        """Returns what was found for exactly the text that the document has now, without waiting; None if nothing was."""
+        """Returns what was found for the present text of a document, without waiting; None if it wasn't judged."""
         kept = self._kept.get(document.uri)
         return kept.found if kept is not None and kept.text == document.source else None
 
@@ -70,7 +70,7 @@ def _judged(text: str, path: str) -> Kept:
 
 
 def pylsp_settings(config: Any) -> Dict[str, Any]:
-    """Returns the settings of the plugin; the server itself looks at `enabled`."""
+    """Returns the default settings of the plugin; the server itself reads `enabled`."""
     return {"plugins": {NAME: {"enabled": True}}}
 
 
@@ -84,23 +84,23 @@ def pylsp_lint(config: Any, workspace: Any, document: Any, is_saved: bool) -> Li
 
 
 def pylsp_hover(config: Any, workspace: Any, document: Any, position: Dict[str, int]) -> Optional[Dict[str, Any]]:
-    """Returns what is known of the pattern at a position; None, so that others are asked, where there is none."""
+    """Returns what is known of the pattern at a position; None if there is none, so that the server asks other plugins."""
     found = BUFFERS.known(document)
     lines = hover_lines(found, position) if found else []
-    # (plain text, since a pattern is what others wrote)
+    # (as plain text, since others may have written the pattern)
     return {"contents": {"kind": "plaintext", "value": "\n".join(lines)}} if lines else None
 
 
 def pylsp_code_actions(
     config: Any, workspace: Any, document: Any, range: Dict[str, Dict[str, int]], context: Any,
 ) -> List[Dict[str, Any]]:
-    """Returns the fixes for the findings in a range: those that change no text, span or group that the calls see."""
+    """Returns the fixes for the findings in a range. Advice is left out, since the calls could notice the change."""
     found = BUFFERS.known(document)
     return list(actions(found, document.uri, range)) if found else []
 
 
 def diagnostics(found: buffers.Judged) -> Iterator[Dict[str, Any]]:
-    """Gives a diagnostic for each finding, for what is only warned of, and for what wasn't read or judged in time."""
+    """Yields a diagnostic for each finding, for what is only warned of, and for what wasn't read or judged in time."""
     warned = {id(it.entry) for it in found.looked.reached} & {id(it) for it in found.given.warned}
     for one in found.looked.reached:
         level = INFORMATION if id(one.entry) in warned else ERROR if one.judged.kind == "exponential" else WARNING
@@ -121,7 +121,7 @@ def _diagnostic(where: Dict[str, Any], level: int, rule: int, words: str) -> Dic
 
 
 def hover_lines(found: buffers.Judged, position: Dict[str, int]) -> List[str]:
-    """Returns lines on the pattern at a position: class, growth, the loops at fault, and what is offered; none elsewhere."""
+    """Returns lines about the pattern at a position: class, growth, loops at fault, and offers; no lines if there is none."""
     findings = {id(it.entry): it for it in found.looked.every()}
     for entry in found.given.report.entries:
         if entry.call and _holds(_range_of(found, entry), position):
@@ -131,7 +131,7 @@ def hover_lines(found: buffers.Judged, position: Dict[str, int]) -> List[str]:
 
 
 def _entry_lines(entry: Entry) -> List[str]:
-    """Returns what a hover shows for an entry that isn't a finding: its call, and its class or why it has none."""
+    """The lines for an entry that isn't a finding: its call, and its class or why it has none."""
     return [f"relint: {entry.call}: {plain.outcome_words(entry)}"]
 
 
@@ -144,7 +144,7 @@ def _finding_lines(found: buffers.Judged, one: Finding) -> List[str]:
 
 
 def actions(found: buffers.Judged, uri: str, wanted: Dict[str, Dict[str, int]]) -> Iterator[Dict[str, Any]]:
-    """Gives an action for each fix of a finding that a range touches; no advice, and no fix whose spans or groups differ."""
+    """Yields an action for each fix of a finding that a range touches."""
     for one in found.looked.reached:
         where = _range_of(found, one.entry)
         if not _touches(where, wanted):
@@ -159,7 +159,7 @@ def actions(found: buffers.Judged, uri: str, wanted: Dict[str, Dict[str, int]]) 
 
 
 def _range_of(found: buffers.Judged, entry: Entry) -> Dict[str, Dict[str, int]]:
-    """The range of an entry's literals, or its place where they aren't found."""
+    """The range of an entry's literals, or its place if they aren't found."""
     source, site = site_of(found.sources, entry)
     place = entry.place or Place(1, 1)
     if source is None:
@@ -170,7 +170,7 @@ def _range_of(found: buffers.Judged, entry: Entry) -> Dict[str, Dict[str, int]]:
 
 
 def _position(source: Source, offset: int) -> Dict[str, int]:
-    """A place as editors count it: from 0, in units of UTF-16."""
+    """A position as editors count it: from 0, in units of UTF-16."""
     place = source.place(offset)
     front = source.text[offset - place.column + 1:offset]
     return {"line": place.line - 1, "character": len(front.encode("utf-16-le", "surrogatepass")) // 2}
@@ -189,7 +189,7 @@ def _touches(where: Dict[str, Dict[str, int]], wanted: Dict[str, Dict[str, int]]
 
 
 def _announce() -> None:
-    """Marks what the server calls. The hover comes before that of the server, which shows nothing of a pattern."""
+    """Marks the functions that the server calls. The hover comes before the server's own, which knows nothing of patterns."""
     mark = importlib.import_module("pylsp").hookimpl
     for it in (pylsp_settings, pylsp_lint, pylsp_code_actions):
         mark(it)

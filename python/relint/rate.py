@@ -1,4 +1,4 @@
-"""How many steps a second this Python does on this machine: measured by relint-confirm, and kept for relint-show.
+"""The steps that this Python does per second on this machine: relint-confirm measures them, and relint-show uses them.
 
 It is kept in a small file in the user's cache folder, only if `relint-confirm --keep-rate` is run. What lies there is read as
 what a stranger wrote: anything but the exact form counts as if nothing were there.
@@ -16,9 +16,9 @@ from .writing import WriteError, replace_file
 
 VERSION = 1
 MOST_BYTES = 1000
-# No Python does fewer or more steps a second than these.
+# No Python does fewer than LEAST or more than MOST steps per second.
 LEAST, MOST = 1000, 10**12
-# A match that takes less time is disturbed too much by what else the machine does.
+# The time of a shorter match depends too much on what else the machine does.
 LEAST_SECONDS = 0.002
 MOST_SAMPLES = 9
 KEYS = {"version", "python", "machine", "steps-a-second"}
@@ -30,12 +30,12 @@ def python_name() -> str:
 
 
 def machine_name() -> str:
-    """Returns what this machine is told from others by."""
+    """Returns a name that tells this machine from others."""
     return f"{platform.node()} {platform.machine()}"
 
 
 def folder() -> Optional[str]:
-    """Returns the folder of the file: `relint` in $XDG_CACHE_HOME or ~/.cache; None where the user has none."""
+    """Returns the folder of the file: `relint` in $XDG_CACHE_HOME or ~/.cache; None if the user has no home folder."""
     cache = os.environ.get("XDG_CACHE_HOME", "")
     if not os.path.isabs(cache):
         home = os.path.expanduser("~")
@@ -44,13 +44,13 @@ def folder() -> Optional[str]:
 
 
 def file_name() -> Optional[str]:
-    """Returns the path of the file."""
+    """Returns the path of the file, or None if there is no folder for it."""
     found = folder()
     return os.path.join(found, "rate.json") if found else None
 
 
 def of_data(data: bytes) -> Optional[int]:
-    """Returns the rate that a file holds, or None where it holds none of this Python on this machine."""
+    """Returns the rate in the content of a file, or None if it has no valid one for this Python on this machine."""
     try:
         found: Any = json.loads(data.decode("ascii"))
     except (ValueError, RecursionError):
@@ -64,7 +64,7 @@ def of_data(data: bytes) -> Optional[int]:
 
 
 def kept() -> Optional[int]:
-    """Returns the steps a second that are kept for this Python on this machine, or None."""
+    """Returns the steps per second that were kept for this Python on this machine, or None if none were."""
     path = file_name()
     if path is None:
         return None
@@ -75,7 +75,7 @@ def kept() -> Optional[int]:
 
 
 def keep(rate: int) -> str:
-    """Keeps a rate, and returns the path of the file. Raises WriteError."""
+    """Writes a rate to the file, and returns its path. Raises WriteError."""
     path = file_name()
     if path is None:
         raise WriteError("the user has no home folder")
@@ -89,18 +89,18 @@ def keep(rate: int) -> str:
 
 
 def k_of(family: Family, length: int) -> Optional[int]:
-    """Returns which text of a family has so many characters, or None where that isn't told by the length."""
+    """Returns the number k of the text of a family that has `length` characters; None if the length doesn't tell it."""
     grows, left = sum(map(len, family.pumps)), length - sum(map(len, family.heads))
     return left // grows if grows and left >= 0 and left % grows == 0 else None
 
 
 def longest(times: Sequence[Tuple[int, float]]) -> Optional[Tuple[int, float]]:
-    """Returns the length and the time of the longest text whose match took long enough to go by."""
+    """Returns the length and the time of the longest text whose match took long enough to be reliable, or None."""
     return next(((length, took) for length, took in reversed(times) if took >= LEAST_SECONDS), None)
 
 
 def measured(samples: Iterator[Tuple[int, float]]) -> Optional[int]:
-    """Returns the steps a second, the middle one of some matches of so many steps and seconds; None where there is none."""
+    """Returns the steps per second: the median of the samples, each with its steps and seconds; None if there are none."""
     rates: List[float] = []
     for steps, took in samples:
         rates.append(steps / took)
@@ -111,7 +111,7 @@ def measured(samples: Iterator[Tuple[int, float]]) -> Optional[int]:
 
 
 def seconds_words(steps: int, rate: int) -> str:
-    """Returns how long so many steps take at this rate, as "about 3 s"."""
+    """Returns words for how long these steps take at this rate, such as "about 3 s"."""
     seconds = steps / rate
     if seconds < 0.95:
         return "less than 1 s"

@@ -1,7 +1,7 @@
-"""Reports of relint in JSON, read into values with names.
+"""Reads reports of relint in JSON.
 
-`read_report` takes the text of `relint check --format json` (report version 1 or 2) and answers a `Report`. Anyone may have
-written the text, so each part of it is checked: its size, its types, its numbers, and the names that relint has.
+`read_report` takes the text of `relint check --format json` (report version 1 or 2) and returns a `Report`. Anyone may have
+written the text, so everything is checked: its size, its types, its numbers, and the names in it.
 """
 from __future__ import annotations
 
@@ -18,12 +18,13 @@ from .opening import is_below
 Text = Union[str, bytes]
 
 MOST_BYTES = 268_435_456
-# Lists and objects hold memory, so a report may have one for so many bytes, as relint's own have far fewer.
+# Lists and objects take memory, so a report may have only one per BYTES_A_PART bytes, and PARTS_ANYHOW more. Reports of relint
+# have far fewer.
 BYTES_A_PART, PARTS_ANYHOW = 16, 10_000
 MOST_NUMBER, MOST_DEGREE, MOST_CODES = 4_294_967_295, 999_999, 1_000_000
 CALLS = ("compile", "match", "search", "fullmatch", "findall", "finditer", "split", "sub", "subn")
 CAUSES = frozenset((*causes.CAUSES, *causes.OLDER))
-# The two forms of a quoted text: raw without an escape, and with those escapes that relint writes.
+# The two forms of a quoted text: a raw one without escapes, and one with the escapes that relint writes.
 QUOTED = re.compile(
     r'''b?(?:r"[^"\x00-\x1f]*"|"(?:[^"\\\x00-\x1f]|\\[\\"nrt]|\\x[0-9a-f]{2}|\\u[0-9a-f]{4}|\\U[0-9a-f]{8})*")''')
 
@@ -31,12 +32,12 @@ KINDS = ("degree", "exponential", "undecided", "refused", "unreadable", "too-dee
 
 
 class ReportError(Exception):
-    """The text is no report of relint; the message says why."""
+    """Raised if a text isn't a report of relint; the message says why."""
 
 
 @dataclass(frozen=True)
 class Place:
-    """A place in a source: both count from 1, columns in characters."""
+    """A place in a source. Lines and columns count from 1; columns count characters."""
 
     line: int
     column: int
@@ -44,7 +45,7 @@ class Place:
 
 @dataclass(frozen=True)
 class Family:
-    """Texts that show a class: text k is heads[0], then each pump k times with the next head behind it."""
+    """Texts that show a class: text k is heads[0], then each pump k times, followed by the next head."""
 
     heads: Tuple[Text, ...]
     pumps: Tuple[Text, ...]
@@ -61,7 +62,7 @@ class Family:
 
 @dataclass(frozen=True)
 class Verdict:
-    """A class: `kind` is degree, exponential or undecided; the other fields are those of its kind."""
+    """A class: `kind` is degree, exponential or undecided. The fields that don't belong to the kind are None."""
 
     kind: str
     degree: Optional[int] = None
@@ -79,9 +80,9 @@ class Verdict:
 
 @dataclass(frozen=True)
 class Entry:
-    """One entry of a report. `place` is that of the site's first literal; `fault` that of a refusal inside it.
+    """One entry of a report. `place` is that of the pattern's first literal, and `fault` is where relint refuses the pattern.
 
-    `beyond` is there for an entry of relint-wide, which isn't proved as the others are.
+    Only entries of relint-wide have `beyond`; they aren't proved as the others are.
     """
 
     path: str
@@ -102,7 +103,7 @@ class Entry:
     beyond: Optional[Beyond] = None
 
     def verdict(self) -> Optional[Verdict]:
-        """Returns the entry's class, or None where it wasn't judged."""
+        """Returns the entry's class, or None if it wasn't judged."""
         if self.kind in ("degree", "exponential", "undecided"):
             return Verdict(self.kind, self.degree, self.limit, self.over)
         return None
@@ -122,13 +123,13 @@ class Entry:
         return self.kind == "exponential" or (self.kind == "degree" and (self.degree or 0) > max_degree)
 
     def is_judged(self) -> bool:
-        """Returns whether the entry has a verdict, undecided ones included."""
+        """Returns whether the entry has a verdict, which may be undecided."""
         return self.kind in ("degree", "exponential", "undecided")
 
 
 @dataclass(frozen=True)
 class Report:
-    """A whole report: its entries in order, and the counts of its last line."""
+    """A whole report: its entries in order, and its counts."""
 
     entries: Tuple[Entry, ...]
     findings: int
@@ -138,7 +139,7 @@ class Report:
 
 
 def read_text(quoted: Any) -> Text:
-    """Returns the text or bytes that a quoted text of relint is, as r"00" or b"\\xff"."""
+    """Returns the value of a text that relint quotes, such as r"00" or b"\\xff". Raises ReportError if it isn't quoted so."""
     if not isinstance(quoted, str) or not QUOTED.fullmatch(quoted):
         raise ReportError("a text that isn't quoted as relint quotes it")
     try:
@@ -149,7 +150,7 @@ def read_text(quoted: Any) -> Text:
 
 
 def _text(found: Any, key: str, known: Optional[Collection[str]] = None) -> str:
-    """A text of an object, one of the known ones where these are given."""
+    """The text under a key of an object, one of the known ones if these are given. Raises ReportError."""
     value = found[key]
     if not isinstance(value, str) or not value or "\0" in value or (known is not None and value not in known):
         raise ReportError(f"{key} is no text, or none that relint writes")
@@ -161,6 +162,7 @@ def _text(found: Any, key: str, known: Optional[Collection[str]] = None) -> str:
 
 
 def _number(found: Any, key: str, least: int = 0, most: int = MOST_NUMBER) -> int:
+    """The number under a key of an object. Raises ReportError if it isn't a whole number in the range."""
     value = found[key]
     if type(value) is not int or not least <= value <= most:
         raise ReportError(f"{key} is no number from {least} to {most}")
@@ -201,6 +203,7 @@ def _verdict(found: Any) -> Verdict:
 
 
 def _entry(found: Any) -> Entry:
+    """The entry that an object of JSON is. Raises ReportError, KeyError, TypeError or AttributeError if it is none."""
     kind = _text(found, "kind", KINDS)
     verdict = _verdict(found) if kind in KINDS[:3] else Verdict(kind)
     return Entry(
@@ -223,7 +226,7 @@ def _entry(found: Any) -> Entry:
 
 
 def _beyond(found: Any) -> Entry:
-    """An entry of relint-wide."""
+    """The entry of relint-wide that an object of JSON is. Raises the same as `_entry`."""
     try:
         return replace(_entry(found), beyond=read_beyond(found["beyond"]))
     except BeyondError as error:
@@ -231,6 +234,7 @@ def _beyond(found: Any) -> Entry:
 
 
 def _entries(found: List[Any], read: Callable[[Any], Entry] = _entry) -> Tuple[Entry, ...]:
+    """The entries of a list. Raises ReportError, which names the number of the wrong entry."""
     entries: List[Entry] = []
     for it in found:
         try:
@@ -243,7 +247,7 @@ def _entries(found: List[Any], read: Callable[[Any], Entry] = _entry) -> Tuple[E
 
 
 def read_report(text: Text) -> Report:
-    """Returns the report that the JSON text is. Raises ReportError where it is none, or larger than any that relint writes."""
+    """Returns the report in a JSON text. Raises ReportError if it isn't one, or is larger than any that relint writes."""
     found = _json(text)
     if not isinstance(found, dict) or found.get("version") not in (1, 2) or not isinstance(found.get("entries"), list):
         raise ReportError("this JSON is no report of relint check --format json")
@@ -256,7 +260,7 @@ def read_report(text: Text) -> Report:
 
 
 def _json(text: Text) -> Any:
-    """The value of a JSON text. Raises ReportError where it has none, or takes too much."""
+    """The value of a JSON text. Raises ReportError if it isn't JSON, or would take too much memory."""
     data = text.encode("utf-8", "surrogatepass") if isinstance(text, str) else text
     if len(data) > MOST_BYTES:
         raise ReportError(f"the report has more than {MOST_BYTES:,} bytes")
@@ -271,7 +275,7 @@ def _json(text: Text) -> Any:
 
 
 def _whole(digits: str) -> int:
-    # (Python takes long for the value of a million digits)
+    # (Python takes long to compute the value of a million digits)
     return int(digits) if len(digits) < 20 else _no_number(digits)
 
 
@@ -280,7 +284,7 @@ def _no_number(_: str) -> int:
 
 
 def read_stream(stream: IO[bytes]) -> bytes:
-    """Returns the bytes of a report from a stream. Raises ReportError where there are more than any report may have."""
+    """Reads a report from a stream, and returns its bytes. Raises ReportError if there are more than MOST_BYTES."""
     data = stream.read(MOST_BYTES + 1)
     if len(data) > MOST_BYTES:
         raise ReportError(f"the report has more than {MOST_BYTES:,} bytes")
@@ -288,7 +292,7 @@ def read_stream(stream: IO[bytes]) -> bytes:
 
 
 def check_paths(report: Report, folders: Sequence[str]) -> None:
-    """Raises ReportError where an entry names a path outside of all these folders, which a tool would then open."""
+    """Raises ReportError if an entry names a path outside of all these folders, so that no tool opens it."""
     paths = dict.fromkeys(it.path for it in report.entries)
     lost = next((it for it in paths if not is_below(it, folders)), None)
     if lost is not None:
@@ -297,11 +301,11 @@ def check_paths(report: Report, folders: Sequence[str]) -> None:
 
 
 def own_of(entries: Sequence[Entry]) -> Tuple[Entry, ...]:
-    """Returns the entries that are relint's own: those that relint-wide found are left out."""
+    """Returns relint's own entries, without those of relint-wide."""
     return tuple(it for it in entries if it.beyond is None)
 
 
 def file_of(entry: Entry) -> str:
-    """Returns the path of an entry's file: that of the notebook where the entry is in a cell."""
+    """Returns the path of an entry's file, which is that of the notebook if the entry is in a cell."""
     is_in_cell = entry.beyond is not None and entry.beyond.cell is not None
     return entry.path.rpartition(CELL)[0] if is_in_cell else entry.path

@@ -1,4 +1,4 @@
-"""The codes of the rules: one for each class that a finding can have, and for what has no class. docs/RULES.md tells them."""
+"""The codes of the rules: one for each class of a finding, and some for entries without a class. docs/RULES.md lists them."""
 from __future__ import annotations
 
 from typing import Dict, List, Optional, Tuple
@@ -8,7 +8,7 @@ from .reports import Entry
 
 EXPONENTIAL, UNDECIDED, NOT_ANALYSED, FILE_NOT_ANALYSED, NOT_READ = 100, 200, 201, 202, 203
 LAST_DEGREE = 99
-# What relint-wide found: the number of an exponential entry of each kind, which a degree is added to.
+# For each kind of relint-wide, the number of the rule for exponential entries. For a degree, the degree is added.
 BEYOND: Dict[str, int] = {ELSEWHERE: 300, HANG: 350}
 LAST_DEGREE_BEYOND = 49
 FIRST = "RLT100"
@@ -23,7 +23,7 @@ BEYOND_NAMES: Dict[str, str] = {ELSEWHERE: "JudgedElsewhere", HANG: "SeenToHang"
 def number(entry: Entry) -> int:
     """Returns the number of an entry's rule: 100 for exponential, 100 and the degree, or 200 to 203 without a class.
 
-    For a class of relint-wide it is 300 or 350 in place of 100.
+    For a class of an entry of relint-wide, it is 300 or 350 instead of 100.
     """
     if entry.beyond is not None and entry.kind in ("exponential", "degree"):
         return BEYOND[entry.beyond.kind] + min(entry.degree or 0, LAST_DEGREE_BEYOND)
@@ -39,7 +39,7 @@ def number(entry: Entry) -> int:
 
 
 def code(entry: Entry) -> str:
-    """Returns the code of an entry's rule, as "RLT100"."""
+    """Returns the code of an entry's rule, such as "RLT100"."""
     return f"RLT{number(entry)}"
 
 
@@ -58,7 +58,7 @@ def _degree_words(degree: int, last: int) -> str:
 
 
 def range_of(heading: str) -> Optional[Tuple[int, int]]:
-    """Returns the numbers of the first and the last rule that a heading of the page of rules tells; None if it tells none."""
+    """Returns the numbers of the first and the last rule that a heading in the page of rules names; None if it names none."""
     words = heading.partition(":")[0].split()
     numbers: List[int] = [int(it[3:]) for it in words if it.startswith("RLT") and it[3:].isdigit()]
     return (numbers[0], numbers[-1]) if numbers else None

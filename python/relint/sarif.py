@@ -1,4 +1,4 @@
-"""Reports in SARIF 2.1.0 with rules, help, levels, and fingerprints that survive a moved line."""
+"""Writes reports in SARIF 2.1.0, with rules, help, levels, and fingerprints that stay the same if a line moves."""
 from __future__ import annotations
 
 import hashlib
@@ -29,6 +29,7 @@ SHORT = {
 
 
 def _kind(entry: Entry) -> str:
+    """The key of an entry's description in SHORT."""
     if entry.beyond is not None and entry.verdict() is not None:
         return entry.beyond.kind
     return entry.kind if entry.kind in SHORT else "refused"
@@ -39,7 +40,7 @@ def _level(entry: Entry) -> str:
 
 
 def _help(rule: int) -> str:
-    """What the page of rules says of a rule; a short word where the pages aren't installed."""
+    """The text about a rule in the page of rules, or a short message if the pages aren't installed."""
     try:
         return explain.rule(rule)[1]
     except explain.NotExplained as error:
@@ -47,7 +48,7 @@ def _help(rule: int) -> str:
 
 
 def _rule(entry: Entry) -> Dict[str, Any]:
-    """The rule of an entry, with its full help."""
+    """The rule of an entry as values for JSON, with its full help."""
     number, level, short = rules.number(entry), _level(entry), SHORT[_kind(entry)]
     is_judged = entry.kind in LEVELS
     precision = "very-high" if entry.beyond is None else "high"
@@ -68,17 +69,19 @@ def _rule(entry: Entry) -> Dict[str, Any]:
 
 
 def _uri(path: str) -> str:
-    # (a report may name what no file is called, with halves of characters: they are kept as they are)
+    """A path as a URI; a relative path stays relative."""
+    # (a report may have a path with lone surrogates, which no file has; they are encoded as they are)
     coded = quote(path.encode("utf-8", "surrogatepass" if _has_half(path) else "surrogateescape"), safe="/-._~")
     return "file://" + coded if os.path.isabs(path) else coded
 
 
 def _has_half(path: str) -> bool:
-    """Whether a path has a surrogate that doesn't stand for a byte of a name."""
+    """Whether a path has a surrogate that doesn't stand for a byte of a file name."""
     return any("\ud800" <= it < "\udc80" or "\udcff" < it <= "\udfff" for it in path)
 
 
 def _region(entry: Entry, source: Optional[Source], site: Optional[Site]) -> Optional[Dict[str, int]]:
+    """The region of an entry's pattern in its file, or None if the entry has no place."""
     if entry.place is None:
         return None
     region = {"startColumn": entry.place.column, "startLine": entry.place.line}
@@ -91,12 +94,13 @@ def _region(entry: Entry, source: Optional[Source], site: Optional[Site]) -> Opt
 
 
 class _Prints:
-    """Fingerprints: of path, call, class and pattern, and of the how-manieth such entry it is; of no line."""
+    """Makes fingerprints of entries: of path, call, class, pattern and the number among equal entries, but not of the line."""
 
     def __init__(self) -> None:
         self._seen: Dict[str, int] = {}
 
     def of(self, entry: Entry, site: Optional[Site]) -> str:
+        """Returns the fingerprint of the next entry of the report."""
         pattern = f"{plain.quoted(site.value)} {site.flags}" if site else ""
         beyond = [entry.beyond.kind] if entry.beyond else []
         key = json.dumps([entry.path, entry.call, entry.kind, entry.degree, entry.limit, entry.cause, pattern, *beyond])
@@ -105,6 +109,7 @@ class _Prints:
 
 
 def _message(entry: Entry, found: Optional[Finding]) -> str:
+    """The message of a result; `found` is the finding of the entry, or None if it isn't one."""
     if found is None:
         return plain.outcome_words(entry)
     verdict = found.judged.verdict()
@@ -146,7 +151,7 @@ def _judged(entry: Entry, found: Optional[Finding]) -> Entry:
 
 
 def _fixes(found: Finding, region: Dict[str, int]) -> List[Dict[str, Any]]:
-    """The fixes of a finding, each of which puts other literals in the place of the pattern's; advice is none."""
+    """The fixes of a finding as values for JSON; each replaces the literals of the pattern. Advice is left out."""
     where = {"uri": _uri(found.entry.path)}
     return [{
         "artifactChanges": [{
@@ -162,7 +167,7 @@ def document(
 ) -> str:
     """Returns the report in SARIF, on one line: the findings, and the entries that weren't decided or analysed.
 
-    Its rules are those of the results, each with its page as help; `passed` says what wasn't looked at.
+    It describes the rules that the results name, each with its page as help. `passed` says what wasn't looked at.
     """
     known = {id(it.entry): it for it in found}
     shown = [it for it in entries if id(it) in known or it.kind != "degree"]

@@ -1,6 +1,6 @@
-"""Python's rules for scopes, told once: what has a scope of its own, what of it is read there, and what a name means.
+"""Python's rules for scopes: which nodes have a scope of their own, which parts of them are read in it, and what a name means.
 
-Who walks over a source decides what a binding is to be: a node for one, with its value for another. The rules are the same.
+Each walk over a source has a kind of binding of its own, such as a node or a value. The rules are the same for all.
 """
 from __future__ import annotations
 
@@ -14,16 +14,16 @@ Bound = TypeVar("Bound")
 
 FUNCTIONS = (ast.FunctionDef, ast.AsyncFunctionDef, ast.Lambda)
 COMPREHENSIONS = (ast.ListComp, ast.SetComp, ast.DictComp, ast.GeneratorExp)
-# Classes of nodes that bind a name which is no node, with the fields that hold it; some are of newer versions of Python.
+# Kinds of nodes that bind a name given as a text, with the field that holds it. Some are only in newer versions of Python.
 NAMED_BY_TEXT = {"MatchAs": "name", "MatchStar": "name", "MatchMapping": "rest", "TypeVar": "name", "ParamSpec": "name",
                  "TypeVarTuple": "name", "ExceptHandler": "name"}
 
 
 @dataclass(eq=False)
 class Scope(Generic[Bound]):
-    """A scope with what it binds: `kind` is module, class, function (a lambda too) or comprehension.
+    """A scope and its bindings. `kind` is module, class, function (for a lambda too) or comprehension.
 
-    `outer` has the names that are said to be of another scope, with the word that says so: global or nonlocal.
+    `outer` has the names that are declared to be of another scope, with the word that declares them: global or nonlocal.
     """
 
     kind: str
@@ -40,21 +40,21 @@ class Scope(Generic[Bound]):
         return scope
 
     def around(self) -> "Scope[Bound]":
-        """Returns the scope in which `:=` binds a name: the one around all comprehensions."""
+        """Returns the scope in which `:=` binds a name: the nearest one that isn't a comprehension."""
         scope = self
         while scope.kind == "comprehension" and scope.parent is not None:
             scope = scope.parent
         return scope
 
     def declare(self, node: Union[ast.Global, ast.Nonlocal]) -> None:
-        """Takes a `global` or `nonlocal`; for a name that has one, the first holds."""
+        """Notes the names of a `global` or `nonlocal`. If a name was declared before, that declaration stays."""
         for name in node.names:
             self.outer.setdefault(name, "global" if isinstance(node, ast.Global) else "nonlocal")
 
     def lookup(self, name: str) -> Tuple[Optional["Scope[Bound]"], List[Bound]]:
-        """Returns the scope that a name is read from, and what binds it there; None and nothing if no scope binds it.
+        """Returns the scope in which a name is found, and its bindings there; None and no bindings if it isn't found.
 
-        The scope of a class is looked into only by what stands directly in its body.
+        Names bound in the body of a class are found only from that body itself, not from scopes inside of it.
         """
         at: Optional[Scope[Bound]] = self
         while at is not None:
@@ -68,14 +68,14 @@ class Scope(Generic[Bound]):
         return None, []
 
     def home(self, name: str) -> "Scope[Bound]":
-        """Returns the scope that a name is read from: that of the module if no scope binds it."""
+        """Returns the scope in which a name is found, or the scope of the module if it isn't found."""
         return self.lookup(name)[0] or self.top()
 
 
 class Part(NamedTuple):
-    """A part of what has a scope of its own: the node, the one that it is in, and whether it is read inside of the scope.
+    """A part of a node that has a scope: the part, the node that it is directly in, and whether it is read in that scope.
 
-    `again` says that it may be read any number of times, none too, whenever the whole is read.
+    `again` says that the part may be run any number of times, or never, each time the whole is run.
     """
 
     node: ast.AST
@@ -85,7 +85,7 @@ class Part(NamedTuple):
 
 
 def kind_of(node: ast.AST) -> Optional[str]:
-    """Returns the kind of scope that a node has of its own, or None where it has none."""
+    """Returns the kind of the scope that a node has of its own: function, class or comprehension; None if it has none."""
     if isinstance(node, FUNCTIONS):
         return "function"
     return "class" if isinstance(node, ast.ClassDef) else "comprehension" if isinstance(node, COMPREHENSIONS) else None
@@ -99,11 +99,11 @@ def parameters(node: Function) -> List[ast.arg]:
 
 
 def parts(node: ast.AST) -> Iterator[Part]:
-    """Yields what is to be read of a node that has a scope of its own, without the names of its parameters."""
+    """Yields the parts of a node that has a scope of its own, except the names of its parameters."""
     if isinstance(node, FUNCTIONS):
         yield from _parts_of_function(node)
     elif isinstance(node, ast.ClassDef):
-        # (type parameters count as bound around the class, which its bases and its methods see)
+        # (type parameters count as bound around the class, where its bases and its methods find them)
         for it in (*node.decorator_list, *getattr(node, "type_params", []), *node.bases, *node.keywords):
             yield Part(it, node, False)
         yield from (Part(it, node, True) for it in node.body)
@@ -112,6 +112,7 @@ def parts(node: ast.AST) -> Iterator[Part]:
 
 
 def _parts_of_function(node: Function) -> Iterator[Part]:
+    """Yields the parts of a function: its body and its type parameters are read inside, all else outside."""
     given = node.args
     if not isinstance(node, ast.Lambda):
         yield from (Part(it, node, False) for it in node.decorator_list)
@@ -125,7 +126,7 @@ def _parts_of_function(node: Function) -> Iterator[Part]:
 
 
 def _parts_of_comprehension(node: ast.AST) -> Iterator[Part]:
-    """The first sequence is read outside, all else inside."""
+    """Yields the parts of a comprehension: what its first loop goes through is read outside, all else inside."""
     for number, one in enumerate(getattr(node, "generators")):
         yield Part(one.iter, one, number > 0, number > 0)
         yield Part(one.target, one, True, True)
@@ -137,7 +138,7 @@ def _parts_of_comprehension(node: ast.AST) -> Iterator[Part]:
 
 
 def imported(node: Import) -> Iterator[Tuple[str, ast.alias]]:
-    """Yields each name that an import binds: `import a.b` binds `a`, and with `as` another one; a star isn't among them."""
+    """Yields each name that an import binds, with its alias node; a star is left out. `import a.b` binds `a`."""
     for it in node.names:
         if it.name != "*":
             whole = isinstance(node, ast.ImportFrom)
@@ -145,15 +146,15 @@ def imported(node: Import) -> Iterator[Tuple[str, ast.alias]]:
 
 
 def named_by_text(node: ast.AST) -> Optional[str]:
-    """Returns the name that a node binds by its text, as `except E as NAME` does, or None where it binds none so."""
+    """Returns the name that a node binds by its text, as `except E as NAME` does, or None if it binds none in this way."""
     given = getattr(node, NAMED_BY_TEXT.get(type(node).__name__, ""), None)
     return given if isinstance(given, str) else None
 
 
 def settle(bound: Iterable[Tuple[Scope[Bound], str, Bound]]) -> None:
-    """Gives each binding to its scope, once all that `global` and `nonlocal` say is known.
+    """Adds each binding to its scope; to be called once all `global` and `nonlocal` are known.
 
-    A scope has what it binds itself first, then what others say is global, then what others say is nonlocal.
+    In a scope, its own bindings come first, then those that inner scopes make by `global`, then those by `nonlocal`.
     """
     said: Dict[str, List[Tuple[Scope[Bound], str, Bound]]] = {"global": [], "nonlocal": []}
     for it in bound:

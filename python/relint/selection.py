@@ -1,6 +1,7 @@
-"""Which files a run looks at: those that are named, and the Python files below the folders that are named.
+"""Finds the files that a run looks at: the files that are named, and the Python files below the folders that are named.
 
-What lies there and isn't looked at is counted: notebooks, stubs, links, and what is left out by a glob or the default list.
+Files below these folders that aren't looked at are counted: notebooks, stubs, links, and what a glob or the default list
+leaves out.
 """
 from __future__ import annotations
 
@@ -13,7 +14,7 @@ from . import git, plain
 from .exclusions import ENVIRONMENT_MARK, Exclusions
 from .walking import DEEPEST
 
-# Folders that hold what others wrote, also where git tracks it.
+# Names of folders that hold code of others, even if git tracks it.
 ENVIRONMENTS = (".venv", ".tox", ".nox", "site-packages")
 SOURCE, NOTEBOOK, STUB = ".py", ".ipynb", ".pyi"
 FILE, LINK, GONE = "file", "link", "gone"
@@ -21,9 +22,11 @@ FILE, LINK, GONE = "file", "link", "gone"
 
 @dataclass
 class Selection:
-    """What a run looks at, in order, and what of it can't be named to relint; the counts are of what isn't looked at.
+    """The files that a run looks at, in order, and counts of what it doesn't look at.
 
-    Notebooks are looked at only by relint-wide, and with `takes_notebooks` they count as looked at.
+    `lost` are paths that can't be given to relint because they aren't UTF-8; `too_deep` are folders that lie too deep. Only
+    relint-wide looks at notebooks; `takes_notebooks` says that they count as looked at. `named_left_out` counts the named
+    files that a glob leaves out.
     """
 
     exclusions: Exclusions
@@ -39,17 +42,17 @@ class Selection:
     _met: Dict[str, None] = field(default_factory=dict)
 
     def add(self, path: str) -> None:
-        """Adds a file, or a folder that can't be listed, unless it is there already."""
+        """Adds a file, or a folder that can't be listed, unless it was added before."""
         if path not in self._met:
             self._met[path] = None
             (self.files if is_utf8(path) else self.lost).append(path)
 
     def is_empty(self) -> bool:
-        """Returns whether there is nothing to look at."""
+        """Returns whether the run has nothing to look at, and no path that gets an entry because it is lost or too deep."""
         return not (self.files or self.lost or self.too_deep or self.takes_notebooks and self.notebooks)
 
     def unlooked(self) -> str:
-        """Returns in words what lies there and isn't looked at; "" if there is nothing."""
+        """Returns words for what isn't looked at and what is left out; "" if there is nothing."""
         notebooks = 0 if self.takes_notebooks else len(self.notebooks)
         counts = ((notebooks, "notebook"), (self.stubs, "stub file"), (self.links, "link"))
         parts = [plain.counted(count, one) for count, one in counts if count]
@@ -64,7 +67,7 @@ class Selection:
 
 
 def is_utf8(text: str) -> bool:
-    """Returns whether a word is UTF-8, so that relint can be given it."""
+    """Returns whether a text can be encoded as UTF-8; only then can it be given to relint."""
     try:
         text.encode("utf-8")
         return True
@@ -75,10 +78,10 @@ def is_utf8(text: str) -> bool:
 def selected(
     paths: Sequence[str], exclusions: Exclusions, tracked: bool = False, bare: bool = False, notebooks: bool = False,
 ) -> Selection:
-    """Returns what a run over the paths looks at: files as they are named, and sources below folders in relint's order.
+    """Returns the files that a run over the paths looks at: in the order named, and below a folder in relint's order.
 
-    With `tracked` only what git tracks; `bare` leaves out the `./` of what lies below the current folder; `notebooks` says
-    whether the run takes those. Raises git.GitError.
+    With `tracked`, only files that git tracks are taken. With `bare`, paths below the current folder have no `./` in front.
+    `notebooks` says whether the run looks at notebooks. Raises git.GitError.
     """
     found = Selection(exclusions, takes_notebooks=notebooks)
     for path in paths:
@@ -102,6 +105,7 @@ def _add_named(found: Selection, path: str) -> None:
 
 
 def _add_below(found: Selection, top: str) -> None:
+    """Adds the sources below a folder, and counts what isn't looked at there."""
     left: List[Tuple[_Child, int]] = [(_Child(top, True, False, False), 0)]
     while left:
         child, level = left.pop()
@@ -125,7 +129,7 @@ class _Child:
 
 
 def _children(folder: str) -> Optional[List[_Child]]:
-    """The children of a folder, in the order of the bytes of their names; None where it can't be listed."""
+    """The children of a folder, sorted by the bytes of their names, or None if the folder can't be listed."""
     front = folder if folder.endswith("/") or not folder else f"{folder}/"
     try:
         with os.scandir(folder or ".") as entries:
@@ -137,7 +141,7 @@ def _children(folder: str) -> Optional[List[_Child]]:
 
 
 def _take(found: Selection, child: _Child) -> None:
-    """Adds a child that is a source, and counts one that isn't looked at."""
+    """Adds a child that is a source, and counts a child that isn't looked at: a link, a notebook or a stub."""
     if child.is_link:
         found.links += child.path.endswith(SOURCE) or os.path.isdir(child.path)
     elif child.is_file and child.path.endswith((SOURCE, NOTEBOOK, STUB)) and found.exclusions.takes_file(child.path):
@@ -154,9 +158,12 @@ def _count(found: Selection, path: str) -> None:
 
 
 def _add_tracked(found: Selection, path: str) -> None:
-    """Adds the Python files that git tracks at a path, without virtual environments, links and what was deleted."""
+    """Adds the Python files that git tracks below a path, except links, deleted files and those in virtual environments.
+
+    Links and files in virtual environments are counted. Raises git.GitError.
+    """
     top = path if os.path.isdir(path) else os.path.dirname(path)
-    # (a folder that the user names is looked at, whatever it is)
+    # (a folder that the user names is looked at even if it is an environment)
     environments = {"" if top == "." else top.rstrip("/"): False}
     links: Dict[str, bool] = dict(environments)
     for one in git.tracked(path):
@@ -177,7 +184,7 @@ def _add_tracked(found: Selection, path: str) -> None:
 
 
 def _kind(path: str) -> str:
-    """What a tracked path is now. One that can't be looked at counts as a file, and relint tells that it can't be read."""
+    """Whether a tracked path is a FILE, a LINK or GONE; FILE if that can't be told, so that relint reports it unreadable."""
     try:
         return LINK if stat.S_ISLNK(os.lstat(path).st_mode) else FILE
     except (FileNotFoundError, NotADirectoryError):
@@ -191,7 +198,7 @@ def _is_environment(folder: str) -> bool:
 
 
 def _holds(folder: str, known: Dict[str, bool], test: Callable[[str], bool]) -> bool:
-    """Whether the test is true of a folder or of one above it, as far as what is known of those."""
+    """Whether the test is true of a folder or of one above it. Answers are kept in `known`, and those in it are used."""
     if folder not in known:
         above = os.path.dirname(folder)
         known[folder] = test(folder) or (above != folder and _holds(above, known, test))

@@ -19,7 +19,7 @@ from .writing import SERVER_COMMAND, is_seen, line, visible
 
 MOST_LINES = 8
 MOST_IN_FULL = 100
-# Entries that are no verdict because relint couldn't look or had no time: each is named, and the status is 3.
+# Kinds of entries without a verdict because relint couldn't read the file or had no time. They are always shown.
 ALWAYS_NAMED = (TIME, "unreadable")
 TAB = 4
 COLOURS = {"error": "1;31", "warning": "1;33", "place": "1", "dim": "2", "mark": "1;31", "part": "1;36", "good": "32"}
@@ -28,7 +28,7 @@ MENDING = "relint-show --explain mending shows how such patterns are rewritten"
 
 
 class Painter:
-    """Puts colour around words, or leaves them as they are."""
+    """Puts colour codes around a text, or leaves it as it is if colours are off."""
 
     def __init__(self, on: bool) -> None:
         self.on = on
@@ -38,7 +38,7 @@ class Painter:
 
 
 def parser() -> Parser:
-    """Returns the reader of the tool's words."""
+    """Returns the parser of the tool's command line."""
     found = Parser("relint-show", "Shows the findings of relint check with their source lines, in plain words.",
                    "The exit status is 0 without a finding, 1 with findings, 2 to 6 for errors.")
     gather.add_options(found)
@@ -55,7 +55,7 @@ def parser() -> Parser:
 
 
 def add_view_options(found: argparse.ArgumentParser) -> None:
-    """Adds the options that say what is shown, in which order, and where."""
+    """Adds the options that say what is shown, in which order, and where it is written."""
     found.add_argument("--all", action="store_true", help="also name each entry that isn't a finding, in one line")
     found.add_argument("--most", type=number(0, 999999), default=MOST_IN_FULL, metavar="N",
                        help=f"how many findings are shown in full ({MOST_IN_FULL}); the others have one line each")
@@ -67,20 +67,20 @@ def add_view_options(found: argparse.ArgumentParser) -> None:
 
 
 def is_coloured(choice: str, out: Optional[TextIO]) -> bool:
-    """Returns whether there are colours on what is written to, for what --color says."""
+    """Returns whether to write colours to `out`; `choice` is the value of --color."""
     if choice != "auto":
         return choice == "always"
     return out is not None and out.isatty() and not os.environ.get("NO_COLOR") and os.environ.get("TERM") != "dumb"
 
 
 def _width(text: str) -> int:
-    """The columns that a text takes on a terminal."""
+    """How many columns a text takes on a terminal."""
     wide = sum(unicodedata.east_asian_width(it) in "WF" for it in text)
     return len(text) + wide - sum(unicodedata.combining(it) != 0 for it in text)
 
 
 def _cells(text: str) -> List[str]:
-    """What a terminal shows for each character of a source line: tabs as blanks, and nothing that it could obey."""
+    """The text to print for each character of a source line: tabs become blanks, and control characters are replaced."""
     cells = []
     for it in text:
         if it == "\t":
@@ -91,7 +91,7 @@ def _cells(text: str) -> List[str]:
 
 
 def _marks(cells: Sequence[str], spans: Sequence[Tuple[int, int, str]]) -> str:
-    """The line below a source line: each span, from a character to one behind it, underlined by its sign."""
+    """The line below a source line, in which each span is underlined by its sign. The end of a span isn't in it."""
     signs = [" "] * (len(cells) + 1)
     for start, end, sign in spans:
         for at in range(max(0, start), min(max(end, start + 1), len(signs))):
@@ -101,7 +101,7 @@ def _marks(cells: Sequence[str], spans: Sequence[Tuple[int, int, str]]) -> str:
 
 
 def _spans_on(source: Source, number: int, spans: Sequence[Tuple[int, int, str]]) -> List[Tuple[int, int, str]]:
-    """The parts of spans of a source that lie on a line, as positions in the line."""
+    """The parts of the spans that lie on a line, as positions in the line."""
     start = source.offset(Place(number, 1))
     end = start + len(source.line(number))
     return [
@@ -112,6 +112,7 @@ def _spans_on(source: Source, number: int, spans: Sequence[Tuple[int, int, str]]
 
 
 def _source_lines(found: Finding, paint: Painter) -> Iterator[str]:
+    """Yields the source lines of a finding, each with its number, and with marks below the pattern and the parts at fault."""
     source = found.source
     if source is None:
         return
@@ -135,7 +136,7 @@ def _source_lines(found: Finding, paint: Painter) -> Iterator[str]:
 
 
 def head(entry: Entry, level: str, words: str, paint: Painter) -> str:
-    """Returns the line that names an entry, with its place, its call, some words and its code."""
+    """Returns the line that names an entry: its place, its call, the words, and the code of its rule."""
     if entry.beyond is not None and entry.verdict() is not None:
         words = f"{KIND_WORDS[entry.beyond.kind]}: {words}"
     at = f":{entry.place.line}:{entry.place.column}" if entry.place else ""
@@ -144,6 +145,7 @@ def head(entry: Entry, level: str, words: str, paint: Painter) -> str:
 
 
 def _details(found: Finding, paint: Painter, compile_as: str) -> Iterator[Tuple[str, str]]:
+    """Yields the names and texts of the lines below a finding."""
     family, beyond = found.judged.family, found.entry.beyond
     if beyond is not None:
         yield "pattern", plain.quoted(beyond.pattern) + plain.flags_code(beyond.flags)
@@ -174,7 +176,7 @@ def _level(entry: Entry) -> str:
 def finding_lines(
     found: Finding, paint: Painter, is_warning: bool = False, compile_as: str = "search", steps_a_second: Optional[int] = None,
 ) -> Iterator[str]:
-    """Gives the lines that show a finding on a terminal, or an entry that is only warned of."""
+    """Yields the lines that show a finding on a terminal, or an entry that is only warned of."""
     verdict = found.judged.verdict()
     words = (plain.class_word(verdict) if verdict else "") + (", a warning" if is_warning else "")
     yield head(found.judged, _level(found.judged), words, paint)
@@ -188,7 +190,7 @@ def finding_lines(
 def sections(
     full: Sequence[Finding], short: Sequence[Finding], paint: Painter, titles: Mapping[str, str] = TITLES,
 ) -> Iterator[str]:
-    """Gives the lines of what relint-wide found, each kind below its heading: some in full, others in one line each."""
+    """Yields the lines of the findings of relint-wide, by kind below headings: those in full, then those in one line each."""
     for kind, title in titles.items():
         its = [[it for it in group if it.entry.beyond is not None and it.entry.beyond.kind == kind] for group in (full, short)]
         if its[0] or its[1]:
@@ -207,7 +209,7 @@ def _short_lines(found: Sequence[Finding], paint: Painter) -> Iterator[str]:
 
 
 def unused_lines(found: Sequence[Finding], paint: Painter, compile_as: str) -> Iterator[str]:
-    """Gives the lines of the findings that no use reaches: a group of their own."""
+    """Yields the lines of the findings that no use reaches, below a heading."""
     if found:
         yield paint("dim", f"{UNUSED}:")
     for it in found:
@@ -217,7 +219,10 @@ def unused_lines(found: Sequence[Finding], paint: Painter, compile_as: str) -> I
 
 
 def end_lines(given: gather.Gathered, found: Looked, short: int) -> Iterator[str]:
-    """Gives the last lines: what isn't shown in full or not looked at, and the counts, each pattern by its class as used."""
+    """Yields the last lines: how many findings are short, what wasn't looked at, and the counts.
+
+    Each finding counts by its class under the uses of its pattern.
+    """
     if short:
         yield f"{plain.counted(short, 'finding')} in one line each: --most N sets how many are shown in full"
     unlooked = given.selection.unlooked() if given.selection else ""
@@ -227,14 +232,14 @@ def end_lines(given: gather.Gathered, found: Looked, short: int) -> Iterator[str
 
 
 def _others(given: gather.Gathered, found: Looked, every: bool) -> List[Entry]:
-    """The other entries that are named: all, or those of what wasn't read, analysed as a whole or judged in time."""
+    """The entries to name that aren't findings: all, or only files that weren't analysed and what wasn't judged in time."""
     shown = {id(it.entry) for it in found.every()}
     rest = [it for it in given.report.entries if id(it) not in shown]
     return rest if every else [it for it in rest if it.call is None or it.kind == TIME]
 
 
 def parted(found: Sequence[Finding], most: int, sort: str) -> Tuple[List[Finding], List[Finding]]:
-    """Returns the findings that are shown in full, the worst ones, and those that have one line each."""
+    """Returns the `most` worst findings, which are shown in full, and the others, which have one line each."""
     worst = sorted(found, key=lambda it: worst_first(it.judged))
     full = {id(it) for it in worst[:most]}
     order = worst if sort == "worst" else found
@@ -251,7 +256,7 @@ def _groups(found: Looked, words: argparse.Namespace) -> Tuple[List[Finding], Li
 def terminal(
     given: gather.Gathered, found: Looked, words: argparse.Namespace, paint: Painter, steps_a_second: Optional[int] = None,
 ) -> Iterator[str]:
-    """Gives the lines for a terminal: relint's own findings, and below them those of relint-wide, by kind."""
+    """Yields the lines for a terminal: relint's own findings, and below them those of relint-wide, by kind."""
     warned = {id(it) for it in given.warned}
     full, short, full_beyond, short_beyond = _groups(found, words)
     for one in full:
@@ -273,7 +278,7 @@ def sarif_document(given: gather.Gathered, found: Looked, sources: Sources) -> s
 
 
 def _lines(words: argparse.Namespace, out: Optional[TextIO]) -> Tuple[Iterator[str], int]:
-    """What is written for the words, and the exit status."""
+    """The lines to write for the command line, and the exit status. Raises GatherError and ProgramError."""
     given = gather.gathered(words)
     gather.tell("relint-show", given)
     sources = Sources(given.folders)
@@ -309,7 +314,7 @@ def _work(given: argparse.Namespace) -> int:
 
 
 def put_lines(name: str, lines: Iterator[str], output: Optional[str]) -> int:
-    """Writes the lines to a file or to standard output for the tool of this name, and answers the exit status."""
+    """Writes the lines to the file `output`, or to standard output if it is None or ""; returns the exit status."""
     if output:
         text = "".join(it + "\n" for it in lines)
         return gather.put(name, output, text.encode("utf-8", "backslashreplace"))
@@ -319,7 +324,7 @@ def put_lines(name: str, lines: Iterator[str], output: Optional[str]) -> int:
 
 
 def main(words: Optional[Sequence[str]] = None) -> int:
-    """Runs the tool with the words of the command line, and answers the exit status."""
+    """Runs the tool with the words of the command line, and returns the exit status."""
     given = gather.parsed(parser(), words)
     return gather.ended("relint-show", lambda: _work(given))
 

@@ -1,6 +1,6 @@
-"""The pattern behind an entry: its literals in the source, its value, and the flags of its call.
+"""Finds the pattern of an entry: its literals in the source, its value, and the flags of its call.
 
-A report names the place of a pattern's first literal. `Source.site` finds what is there, as Python reads it.
+A report names the place of a pattern's first literal. `Source.site` returns the pattern there, as Python reads it.
 """
 from __future__ import annotations
 
@@ -19,24 +19,24 @@ LINE_END = re.compile(r"\r\n|\r|\n")
 ESCAPE = re.compile(r"\\(?:\r\n|[0-7]{1,3}|x[0-9a-fA-F]{2}|u[0-9a-fA-F]{4}|U[0-9a-fA-F]{8}|N\{[^}]*\}|.)|\r\n|.", re.S)
 BYTES_ESCAPE = re.compile(r"\\(?:\r\n|[0-7]{1,3}|x[0-9a-fA-F]{2}|.)|\r\n|.", re.S)
 RAW_CODE = re.compile(r"\r\n|.", re.S)
-# (an f-string holds code, which isn't read here)
+# The prefixes of literals that are read here. An f-string isn't, since it holds code.
 PREFIX = re.compile(r"[rRbBuU]*[\"']")
 LITERAL = re.compile(r"([A-Za-z]*)(\"\"\"|'''|\"|')")
-# More tokens are no names of flags, no run of literals that relint judges, and no rest of a call that is read for its flags.
+# The largest number of tokens in the flags of a call, and in a run of literals or the rest of a call.
 MOST_TOKENS_OF_FLAGS, MOST_TOKENS = 100, 100_000
-# The position of the argument flags of each call, where it may stand without its name.
+# The position of the argument `flags` in each call, if it is given without its name.
 FLAGS_AT = {
     "compile": 1, "match": 2, "search": 2, "fullmatch": 2, "findall": 2, "finditer": 2, "split": 3, "sub": 4, "subn": 4,
 }
 
 
 class SourceError(Exception):
-    """The source can't be read; the message says why."""
+    """Raised if a source can't be read; the message says why."""
 
 
 @dataclass(frozen=True)
 class Literal:
-    """One string literal of a pattern: its text as it is written, and the offsets of its ends in the source's text."""
+    """One string literal of a pattern: its text in the source, and the offsets where it begins and ends."""
 
     text: str
     start: int
@@ -45,7 +45,7 @@ class Literal:
 
 @dataclass(frozen=True)
 class Site:
-    """A pattern in a source. `flags` is None where they aren't written with names of re alone."""
+    """A pattern in a source. `flags` is None unless they are written only with names of `re`."""
 
     literals: Tuple[Literal, ...]
     value: Text
@@ -53,10 +53,10 @@ class Site:
 
 
 class Source:
-    """The text of a Python file, with what is asked of it by place."""
+    """The text of a Python file, which answers questions about its places."""
 
     def __init__(self, data: bytes) -> None:
-        """Takes the file's bytes. Raises SourceError where they aren't UTF-8, as relint reads no other coding."""
+        """Takes the file's bytes. Raises SourceError if they aren't UTF-8; relint reads no other coding either."""
         try:
             text = data.decode("utf-8")
         except UnicodeDecodeError as error:
@@ -79,14 +79,14 @@ class Source:
         return Place(low + 1, offset - self.starts[low] + 1)
 
     def line(self, number: int) -> str:
-        """Returns a line without its end; lines count from 1. Answers "" past the last one."""
+        """Returns a line without its end, or "" if there is no such line. Lines count from 1."""
         if not 1 <= number <= len(self.starts):
             return ""
         end = self.starts[number] if number < len(self.starts) else len(self.text)
         return self.text[self.starts[number - 1]:end].rstrip("\r\n")
 
     def literals(self, place: Place) -> Tuple[Literal, ...]:
-        """Returns the run of string literals that begins at the place, as tokens of the running Python, or none."""
+        """Returns the adjacent string literals that begin at the place, as the running Python reads them."""
         start = self.offset(place)
         found: List[Literal] = []
         offsets = _Offsets(self, start)
@@ -106,15 +106,15 @@ class Source:
         return tuple(found)
 
     def _lines_from(self, start: int) -> Iterator[str]:
-        """The lines from an offset on, as the tokenizer takes them."""
+        """Yields the lines from an offset on, for the tokenizer."""
         first = self.place(start)
-        # ("(" in front, so that line ends between the literals are none, and no indentation counts)
+        # (inside parentheses, line ends between the literals and indentation don't count)
         yield "(" + self.line(first.line)[first.column - 1:] + "\n"
         for number in range(first.line + 1, len(self.starts) + 1):
             yield self.line(number) + "\n"
 
     def site(self, place: Place, call: Optional[str]) -> Optional[Site]:
-        """Returns the pattern whose first literal is at the place, or None where none is there."""
+        """Returns the pattern whose first literal is at the place, or None if there is none."""
         literals = self.literals(place)
         if not literals:
             return None
@@ -132,19 +132,22 @@ class Source:
         return Site(literals, value, flags)
 
     def call(self, place: Place) -> Optional[Call]:
-        """Returns the call whose pattern begins at the place, or None where the running Python doesn't find it."""
+        """Returns the call whose pattern begins at the place, or None if the running Python doesn't find it."""
         if not self._is_parsed:
             self._is_parsed, self._calls = True, calls_of(self.text)
         line = self.line(place.line)
         return (self._calls or {}).get((place.line, len(line[: place.column - 1].encode("utf-8", "surrogatepass"))))
 
     def _flags(self, place: Place, call: Optional[str]) -> Optional[int]:
-        """The flags of the call at the place, as the running Python parses it, or None if they aren't known."""
+        """The flags of the call at the place, if the running Python can parse the source; None if they aren't known."""
         found = self.call(place)
         return None if found is None or call is None else found.flags(FLAGS_AT.get(call, 1))
 
     def _flags_behind(self, end: int, call: str) -> Optional[int]:
-        """The flags by tokens alone, for a source that the running Python can't read whole, as one of Python 2."""
+        """The flags of a call whose first argument ends at `end`, found only by tokens; None if they aren't known.
+
+        This is for sources that the running Python can't parse, such as those for Python 2.
+        """
         arguments: List[List[str]] = [[]]
         depth = 1
         lines = self._lines_from(end)
@@ -165,7 +168,7 @@ class Source:
 
 
 class _Offsets:
-    """Turns a place of the tokens of the rest of a source into an offset of the source's text."""
+    """Turns a position that the tokenizer gives for the lines of `_lines_from` into an offset in the source."""
 
     def __init__(self, source: Source, start: int) -> None:
         self.first = source.place(start)
@@ -186,8 +189,10 @@ def inner_span(literal: Literal) -> Tuple[int, int]:
 
 
 def code_offsets(site: Site) -> Optional[Tuple[int, ...]]:
-    """Returns where each code of a pattern's value begins in its source's text, and behind them where the last literal's
-    closing quote does; None where the literals don't give the value code by code."""
+    """Returns the offset in the source of each character of a pattern, and of the last literal's closing quote.
+
+    Returns None if the characters can't be assigned to parts of the literals one by one.
+    """
     offsets: List[int] = []
     closing = 0
     for literal in site.literals:
@@ -200,6 +205,7 @@ def code_offsets(site: Site) -> Optional[Tuple[int, ...]]:
 
 
 def _offsets_in(literal: Literal, first: int, last: int, raw: bool, value: Text) -> Iterator[int]:
+    """Yields the offset in the source of each character of a literal; `first` and `last` are the ends of its inside."""
     form = RAW_CODE if raw else ESCAPE if isinstance(value, str) else BYTES_ESCAPE
     for piece in form.finditer(literal.text, first, last):
         at = literal.start + piece.start()
@@ -212,12 +218,12 @@ def _offsets_in(literal: Literal, first: int, last: int, raw: bool, value: Text)
 
 
 def _is_known(escape: str, value: Text) -> bool:
-    """Whether the escape stands for one code: uUN do so in text alone, and with their digits or name."""
+    """Whether an escape means one character: those with u, U or N do so only in texts, and only if they are complete."""
     return escape[1] not in "uUN" or (isinstance(value, str) and len(escape) > 2)
 
 
 def _flags_in(arguments: List[List[str]], at: int) -> Optional[int]:
-    """The flags that the tokens of a call's arguments give, the first of which is the pattern."""
+    """The flags that the tokens of a call's arguments give; None if they aren't known. The first argument is the pattern."""
     if any(it[:1] in (["*"], ["**"]) or "lambda" in it for it in arguments):
         return None
     named = [it[2:] for it in arguments if it[:2] == ["flags", "="]]

@@ -1,4 +1,4 @@
-"""Begins and ends processes. It has none of the imports of `subprocess`, which take as long as relint takes for many files."""
+"""Starts and ends processes without importing `subprocess`, which takes as long as relint takes for many files."""
 from __future__ import annotations
 
 import os
@@ -6,18 +6,18 @@ import signal
 import sys
 
 TYPE_CHECKING = False
-if TYPE_CHECKING:  # (it takes as long to import as thousands of files take to list)
+if TYPE_CHECKING:  # (importing typing takes as long as listing thousands of files)
     from typing import Dict, Iterable, List, Set, Tuple
 
-# The signals at which a tool ends what it began.
+# The signals at which a tool ends the processes that it started.
 STOPPING = [getattr(signal, it) for it in ("SIGINT", "SIGTERM", "SIGHUP") if hasattr(signal, it)]
-# Those that Python passes over, and that others are to have as they are at first.
+# The signals that Python ignores; processes that it starts are to have their default actions.
 PASSED_OVER = [getattr(signal, it) for it in ("SIGPIPE", "SIGXFZ", "SIGXFSZ") if hasattr(signal, it)]
 READ_AT_A_TIME = 1 << 16
 
 
 def python_words() -> List[str]:
-    """Returns the words that begin this Python for a script of the package, whatever lies in the current folder."""
+    """Returns the words that start this Python for a script of the package, independent of the current folder."""
     return [sys.executable, "-I", "-B"]
 
 
@@ -27,25 +27,25 @@ def python_environment() -> Dict[str, str]:
 
 
 class Held:
-    """While this is entered, the signals at which a tool ends wait: so none comes before a process that began is noted."""
+    """A context in which the signals that end a tool are held back, so that none comes before a new process is noted."""
 
     def __enter__(self) -> Set[int]:
-        """Returns the signals that waited before."""
+        """Returns the signals that were held back before."""
         self._before: Set[int] = set(signal.pthread_sigmask(signal.SIG_BLOCK, STOPPING))
         return self._before
 
     def __exit__(self, *_: object) -> None:
-        """Lets the signals come that waited meanwhile."""
+        """Lets the signals come that were held back in the meantime."""
         signal.pthread_sigmask(signal.SIG_SETMASK, self._before)
 
 
 def spawn(words: List[bytes], held: Set[int]) -> int:
-    """Begins a process with the inputs and outputs of this one, and returns its number. Raises OSError."""
+    """Starts a process with the input and outputs of this one, and returns its number. Raises OSError."""
     return os.posix_spawn(words[0], words, os.environ, setsigmask=held, setsigdef=PASSED_OVER)
 
 
 def spawn_piped(words: List[bytes], environment: Dict[bytes, bytes], held: Set[int]) -> Tuple[int, int, int]:
-    """Begins a process with an empty input; returns its number and where to read what it writes to 1 and 2. Raises OSError."""
+    """Starts a process with an empty input; returns its number and descriptors to read its two outputs. Raises OSError."""
     opened: List[int] = []
     try:
         out, out_end = _pipe(opened)
@@ -65,9 +65,9 @@ def spawn_piped(words: List[bytes], environment: Dict[bytes, bytes], held: Set[i
 
 
 def asked(words: List[bytes], most: int) -> Tuple[int, bytes, bytes]:
-    """Runs a command with an empty input; returns its status as a shell has it, and what it wrote to 1 and 2. Raises OSError.
+    """Runs a command with an empty input; returns its status as in a shell, and the bytes of its two outputs.
 
-    A command that writes more than `most` bytes is ended.
+    A command that writes more than `most` bytes is ended. Raises OSError.
     """
     with Held() as held:
         pid, out, err = spawn_piped(words, dict(os.environb), held)
@@ -86,7 +86,7 @@ def asked(words: List[bytes], most: int) -> Tuple[int, bytes, bytes]:
 
 
 def _read_both(out: int, err: int, most: int) -> List[bytes]:
-    """Reads two pipes to their ends, or until there are more than so many bytes."""
+    """Reads two pipes to their ends, or until there are more than `most` bytes."""
     import select
 
     poll = select.poll()
@@ -106,7 +106,7 @@ def _read_both(out: int, err: int, most: int) -> List[bytes]:
 
 
 def _pipe(opened: List[int]) -> Tuple[int, int]:
-    """Opens a pipe, whose second end is none of the numbers that a process begins with; adds both ends to those opened."""
+    """Opens a pipe whose writing end isn't one of the descriptors 0 to 2; adds both ends to `opened`."""
     reading, writing = os.pipe()
     low: List[int] = []
     while writing <= 2:
@@ -119,7 +119,7 @@ def _pipe(opened: List[int]) -> Tuple[int, int]:
 
 
 def end(pids: Iterable[int]) -> None:
-    """Ends processes that this one began, and waits until they are."""
+    """Ends processes that this one started, and waits until they have ended."""
     left = list(pids)
     for pid in left:
         try:

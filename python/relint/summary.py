@@ -1,4 +1,4 @@
-"""The last line of a report for people: how many entries there are of each severity, and what wasn't judged, and why."""
+"""Makes the last line of a report for people: the number of entries of each severity, and what wasn't judged and why."""
 from __future__ import annotations
 
 from typing import List, Sequence, Tuple
@@ -9,7 +9,7 @@ from .used.classes import UNUSED
 
 
 def severities(entries: Sequence[Entry], max_degree: int) -> List[str]:
-    """Returns the counts by severity, the worst first: exponential, degrees that are findings, and degrees from 2 on below."""
+    """Returns the counts by severity, the worst first: exponential, degrees that are findings, other degrees from 2 on."""
     degrees = [it.degree or 0 for it in entries if it.kind == "degree"]
     exponential = sum(it.kind == "exponential" for it in entries)
     above = sum(it > max_degree for it in degrees)
@@ -21,12 +21,12 @@ def severities(entries: Sequence[Entry], max_degree: int) -> List[str]:
 
 
 def by_count(counts: Sequence[Tuple[str, int]]) -> str:
-    """Returns counts with their names, as "11 lookaround, 2 not-whole"."""
+    """Returns counts with their names, such as "11 lookaround, 2 not-whole"."""
     return ", ".join(f"{count:,} {name}" for name, count in counts)
 
 
 def not_judged(entries: Tuple[Entry, ...]) -> List[str]:
-    """Returns how many entries are undecided or not analysed, each with the causes."""
+    """Returns words for how many entries are undecided and how many weren't analysed, each with the causes."""
     parts = []
     for counts, words in ((plain.limits(entries), "undecided"), (plain.causes(entries), "not analysed")):
         if counts:

@@ -1,4 +1,4 @@
-"""Run by relint-confirm in a process of its own: matches the texts of one family, each longer than the one before.
+"""Matches longer and longer texts of one family; relint-confirm runs this in a process of its own.
 
 Reads a job as JSON on standard input. Writes a line `K LENGTH` before each match and a line `took SECONDS` after it; the last
 line is `end`, or `refused MESSAGE` or `memory`. A match that takes the job's seconds of processor time ends the process.
@@ -16,12 +16,13 @@ from typing import Any, Callable, Dict, List, Tuple, Union
 
 Text = Union[str, bytes]
 Measured = List[Tuple[int, float]]
-# Below this part of the limit k grows by half; above it the next k is where the limit would be reached by the last two times.
+# While a match takes less than the fraction QUICK of the limit, k grows by half. Then the last two times are used to estimate
+# the k at which the limit is reached.
 QUICK, STEEPEST = 0.02, 1.5
 
 
 def next_k(measured: Measured, seconds: float, exponential: bool) -> int:
-    """Returns the next k, after those that were measured with the seconds that each took."""
+    """Returns the next k to try, given each k that was measured with its seconds."""
     k, took = measured[-1]
     most = max(k + 1, int(k * STEEPEST))
     if took < seconds * QUICK or len(measured) < 2:
@@ -38,7 +39,7 @@ def next_k(measured: Measured, seconds: float, exponential: bool) -> int:
 
 
 def say(line: str) -> None:
-    """Writes a line at once, since the process may end in the next match."""
+    """Writes a line without delay, since the process may be ended during the next match."""
     sys.stdout.write(line + "\n")
     sys.stdout.flush()
 
@@ -53,14 +54,14 @@ def text_of(heads: List[Text], pumps: List[Text], k: int) -> Text:
 
 
 def longest_k(heads: List[Text], pumps: List[Text], longest: int) -> int:
-    """Returns the greatest k whose text has at most so many characters; 0 where text 1 has more."""
+    """Returns the greatest k whose text has at most `longest` characters; 0 if text 1 has more."""
     left = longest - sum(len(it) for it in heads)
     grows = sum(len(it) for it in pumps)
     return max(left, 0) // grows if grows else 1
 
 
 def timed(match: Callable[[Any], object], text: Text, seconds: float) -> float:
-    """Matches the text, and returns the processor time; where that reaches the limit, the process ends by SIGPROF."""
+    """Matches the text, and returns the processor time that it took. SIGPROF ends the process if that reaches the limit."""
     signal.setitimer(signal.ITIMER_PROF, seconds)
     began = time.process_time()
     match(text)
@@ -70,7 +71,10 @@ def timed(match: Callable[[Any], object], text: Text, seconds: float) -> float:
 
 
 def grow(job: Dict[str, Any], took_by: Callable[[Text], float], tell: Callable[[str], object]) -> None:
-    """Tries growing k until a match takes too long or the longest text is reached; `took_by` matches a text."""
+    """Tries greater and greater k until a match takes too long or the longest text is reached.
+
+    `took_by` matches a text and returns its seconds; `tell` writes a line.
+    """
     heads, pumps = texts_of(job)
     measured: Measured = []
     last = longest_k(heads, pumps, job["longest"])
@@ -88,7 +92,7 @@ def grow(job: Dict[str, Any], took_by: Callable[[Text], float], tell: Callable[[
 
 
 def limit(memory: int, seconds: float) -> None:
-    """Limits the process: bytes of memory, and processor time of all matches together."""
+    """Limits the memory of the process, and the processor time of all matches together."""
     resource.setrlimit(resource.RLIMIT_AS, (memory, memory))
     resource.setrlimit(resource.RLIMIT_CORE, (0, 0))
     most = math.ceil(seconds * 40) + 60
@@ -96,7 +100,7 @@ def limit(memory: int, seconds: float) -> None:
 
 
 def decoded(text: str, job: Dict[str, Any]) -> Text:
-    """Returns a text of the job as its pattern takes it."""
+    """Returns a text of the job, as bytes if its pattern is bytes."""
     return text.encode("latin-1") if job["bytes"] else text
 
 
@@ -106,7 +110,7 @@ def texts_of(job: Dict[str, Any]) -> Tuple[List[Text], List[Text]]:
 
 
 def main() -> None:
-    """Reads the job, and does it."""
+    """Reads the job from standard input, and does it."""
     job = json.loads(sys.stdin.read())
     limit(job["memory"], job["seconds"])
     try:

@@ -12,14 +12,14 @@ MAX_DEGREE = 2
 
 
 def order(verdict: Optional[Verdict]) -> Order:
-    """Returns a pair that is greater for a worse class: degrees by their number, then exponential, then what isn't known."""
+    """Returns a pair that is greater for a worse class: degrees by their number, then exponential, then unknown."""
     if verdict is None or verdict.kind == "undecided":
         return UNKNOWN
     return EXPONENTIAL if verdict.kind == "exponential" else degree(verdict.degree or 0)
 
 
 def degree(number: int) -> Order:
-    """Returns the order of that degree."""
+    """Returns the order of a degree."""
     return 0, number
 
 

@@ -1,7 +1,7 @@
 """Lists the files that `relint check` would judge, in its order and by its rules.
 
-A folder's children come sorted by the bytes of their names; a child file counts where its name ends in `.py`; a symbolic
-link below a folder is passed over; a path that was met before is passed over too.
+A folder's children come sorted by the bytes of their names. A child file is listed if its name ends in `.py`. Symbolic links
+below a folder are skipped, and so is a path that was met before.
 """
 from __future__ import annotations
 
@@ -9,20 +9,20 @@ import os
 import stat
 
 TYPE_CHECKING = False
-if TYPE_CHECKING:  # (it takes as long to import as thousands of files take to list)
+if TYPE_CHECKING:  # (importing typing takes as long as listing thousands of files)
     from typing import Iterator, List, Optional, Sequence, Set, Tuple
 
 DEEPEST = 64
-# The level of a path that is no folder.
+# The level of a path that isn't a folder.
 NO_FOLDER = -1
-# What was found is given on when there are so many paths, or when so many folders were entered since.
+# Paths are yielded once there are PATHS_AT_A_TIME of them, or once FOLDERS_AT_A_TIME folders were entered.
 PATHS_AT_A_TIME, FOLDERS_AT_A_TIME = 64, 16
 
 
 class Passed:
-    """What was passed over where Python files may be: counts of files and links, and the folders that lie too deep.
+    """Notes what was skipped where Python files may be: counts of files and links, and the folders that lie too deep.
 
-    With `any_name`, a name that isn't UTF-8 is given on by itself. For relint the whole folder can't be listed then.
+    With `any_name`, a folder is listed even if a name in it isn't UTF-8. relint can't list such a folder at all.
     """
 
     __slots__ = ("links", "environments", "deep", "any_name")
@@ -33,7 +33,7 @@ class Passed:
         self.any_name = any_name
 
     def words(self) -> str:
-        """Returns the counts in words; "" where nothing was passed over."""
+        """Returns the counts in words; "" if nothing was skipped."""
         counts = (
             (self.environments, "file{} of virtual environments"), (self.links, "link{}"),
             (len(self.deep), f"folder{{}} below the {DEEPEST}th level"),
@@ -43,23 +43,23 @@ class Passed:
 
 
 class NotListed(Exception):
-    """The files can't be listed so that, named one by one, they give what a walk over the whole gives."""
+    """Raised if no list of files gives the same entries as the walk that `relint check` does itself."""
 
 
 class TooDeep(NotListed):
-    """A folder lies more than 64 levels below its named path: naming it would walk it, where relint doesn't enter it."""
+    """Raised for a folder more than 64 levels below its named path: relint doesn't enter it, but would if it were named."""
 
 
 class NamedAgain(NotListed):
-    """A path that isn't there, or is no file and no folder, is named twice, and has its entry each time."""
+    """Raised if a path that is neither a file nor a folder is named twice: relint gives it an entry each time."""
 
 
 def walk(paths: Sequence[bytes], once: bool = False, passed: Optional[Passed] = None) -> Iterator[List[bytes]]:
-    """Yields what to name in place of the paths, in the order of the walk, some at a time; there may be none at a time.
+    """Yields lists of paths to name in place of `paths`, in the order of the walk; a list may be empty.
 
-    relint gives what is named the entries, in this place, that a walk over the whole gives it. What is passed over is noted
-    in `passed`. Without one, raises TooDeep where a folder is; and NamedAgain where every path is to come `once` and one has
-    to come twice.
+    Checking the yielded paths in order gives the same entries as checking the original paths. What is skipped is noted in
+    `passed`. If `passed` is None, raises TooDeep at a folder that lies too deep. With `once`, raises NamedAgain at a path that
+    has to be yielded twice.
     """
     met: Set[bytes] = set()
     repeated: Set[bytes] = set()
@@ -85,13 +85,13 @@ def walk(paths: Sequence[bytes], once: bool = False, passed: Optional[Passed] = 
 
 
 def files_below(paths: Sequence[str], passed: Passed) -> List[str]:
-    """Returns the files that relint reads below the paths, in its order, and what it can't list or read."""
+    """Returns the files that relint reads below the paths, in its order, and the paths that it can't list or read."""
     named = [os.fsencode(it) for it in paths]
     return [os.fsdecode(it) for part in walk(named, passed=passed) for it in part]
 
 
 def _mode(path: bytes) -> int:
-    """The mode of a path, or 0 where it isn't there."""
+    """The file mode of a path, or 0 if it can't be looked up. Links aren't followed."""
     try:
         return os.lstat(path).st_mode
     except OSError:
@@ -99,9 +99,14 @@ def _mode(path: bytes) -> int:
 
 
 def _walk_folder(top: bytes, met: Set[bytes], passed: Optional[Passed]) -> Iterator[List[bytes]]:
+    """Yields the files to name in place of a folder, some at a time, without those in `met`, to which all are added.
+
+    A folder that can't be listed is yielded itself. A folder below level DEEPEST is noted in `passed`; without one, raises
+    TooDeep.
+    """
     found: List[bytes] = []
     entered = 0
-    # (what is left, each path with its level, the next one last)
+    # The stack of what is left: each path with its level, which is NO_FOLDER for a file.
     left: List[Tuple[bytes, int]] = [(top, 0)]
     while left:
         path, level = left.pop()
@@ -125,11 +130,14 @@ def _walk_folder(top: bytes, met: Set[bytes], passed: Optional[Passed]) -> Itera
 def _enter(
     folder: bytes, level: int, met: Set[bytes], found: List[bytes], left: List[Tuple[bytes, int]], passed: Optional[Passed]
 ) -> None:
-    """Adds a folder's children to what was found, or to what is left where folders are among them."""
+    """Adds a folder's sources to `found`, or all its children to the stack `left` if folders are among them.
+
+    A folder that can't be listed is added to `found` itself.
+    """
     try:
         sources, folders = _children(folder, passed)
     except (OSError, UnicodeDecodeError):
-        # (named by itself it fails as well, and so has the one entry `unreadable`)
+        # (relint can't list it either, and gives it an entry `unreadable`)
         found.append(folder)
         return
     sources = [it for it in sources if it not in met]
@@ -143,7 +151,7 @@ def _enter(
 
 
 def _children(folder: bytes, passed: Optional[Passed]) -> Tuple[List[bytes], List[bytes]]:
-    """Returns the folder's sources and its folders. Raises OSError or UnicodeDecodeError where relint can't list it."""
+    """The sources and the folders in a folder. Raises OSError or UnicodeDecodeError if relint can't list it."""
     names: List[bytes] = []
     sources: List[bytes] = []
     folders: List[bytes] = []
@@ -160,6 +168,6 @@ def _children(folder: bytes, passed: Optional[Passed]) -> Tuple[List[bytes], Lis
     if passed is None or not passed.any_name:
         b"\0".join(names).decode("utf-8")
     if names:
-        # (relint looks at each: it fails where the folder may not be searched, and where a path becomes too long)
+        # (relint looks up each name, which fails if the folder can't be searched or a path is too long)
         os.lstat(os.path.join(folder, max(names, key=len)))
     return sources, folders

@@ -1,11 +1,11 @@
-"""The words that the program relint takes: its actions, its options and their values, and which word of a call it refuses."""
+"""The command line of the program relint: its actions, its options and their values, and which words it refuses."""
 from __future__ import annotations
 
 TYPE_CHECKING = False
-if TYPE_CHECKING:  # (it takes as long to import as thousands of files take to list)
+if TYPE_CHECKING:  # (importing typing takes as long as listing thousands of files)
     from typing import Dict, List, Optional, Sequence, Set, Tuple
 
-# Each action with its arguments, and what it is for.
+# Each action with its arguments, and words for what it does.
 ACTIONS: Dict[str, Tuple[str, str]] = {
     "check": ("PATH..", "report the patterns of Python files"),
     "class": ("PATTERN", "say how the cost of a pattern grows"),
@@ -18,24 +18,24 @@ ACTIONS: Dict[str, Tuple[str, str]] = {
 
 
 class Option:
-    """An option of every action: the words that it takes, or the range of its number; with neither it takes a path."""
+    """An option of every action. It takes one of some words, or a number in a range, or else a path."""
 
     def __init__(self, about: str, choices: Tuple[str, ...] = (), numbers: Optional[Tuple[int, int]] = None) -> None:
-        """`about` says what it is for."""
+        """Takes words for what the option does, and the words or the range of its values."""
         self.about, self.choices, self.numbers = about, choices, numbers
 
     def is_path(self) -> bool:
-        """Returns whether it takes a path."""
+        """Returns whether the option takes a path."""
         return not self.choices and self.numbers is None
 
     def wanted(self) -> str:
-        """Returns what it takes, in words."""
+        """Returns words for the values that the option takes."""
         if self.numbers:
             return f"a number from {self.numbers[0]} to {self.numbers[1]}"
         return f"one of {', '.join(self.choices)}" if self.choices else "a path"
 
     def takes(self, value: str) -> bool:
-        """Returns whether it takes a value."""
+        """Returns whether the option takes this value."""
         if self.numbers:
             is_number = value.isascii() and value.isdigit() and len(value) <= LONGEST_NUMBER
             return is_number and self.numbers[0] <= int(value) <= self.numbers[1]
@@ -61,7 +61,7 @@ def _near(word: str, known: Sequence[str]) -> str:
 
 
 def _of_value(name: str, value: Optional[str], is_apart: bool) -> str:
-    """Why a value is refused; a value that is a word of its own may not begin as an option does."""
+    """Why a value is refused, or "". A value that is a word of its own mustn't begin like an option."""
     option = OPTIONS[name]
     if value is None:
         return f"{name} wants {option.wanted()}"
@@ -71,9 +71,9 @@ def _of_value(name: str, value: Optional[str], is_apart: bool) -> str:
 
 
 def refused(words: Sequence[str], has_paths: bool = False) -> str:
-    """Returns which of the words behind `relint check` is refused, and why; "" where all are taken.
+    """Returns which of the words after `relint check` is refused, and why; "" if none is.
 
-    With `has_paths` paths are given elsewhere, so that none is wanted here.
+    With `has_paths`, paths are given elsewhere, so the words need none.
     """
     met: Set[str] = set()
     paths: List[str] = []

@@ -1,4 +1,4 @@
-"""Writes what others chose, as names and patterns, so that no terminal, build server or file system obeys it."""
+"""Writes texts of others, such as names and patterns, so that they can't control a terminal, build server or file system."""
 from __future__ import annotations
 
 import os
@@ -8,25 +8,25 @@ import stat
 from .opening import OpenError, names_below, open_folder, read_in, reason
 
 TYPE_CHECKING = False
-if TYPE_CHECKING:  # (it takes as long to import as thousands of files take to list)
+if TYPE_CHECKING:  # (importing typing takes as long as listing thousands of files)
     from typing import List, Optional, Tuple
 
-# What Python counts as printable, though nothing is seen of it: fillers, joiners, and selectors of a letter's form.
+# Characters that Python counts as printable though they can't be seen: fillers, joiners, and selectors of a letter's form.
 UNSEEN = frozenset(map(chr, (
     0x034F, 0x115F, 0x1160, 0x17B4, 0x17B5, *range(0x180B, 0x1810), 0x2800, 0x3164, *range(0xFE00, 0xFE10), 0xFFA0,
     *range(0xE0100, 0xE01F0),
 )))
-# What a build server takes as a command wherever it is in a line, as ##[error] and ##vso[..].
+# The start of a text that a build server takes for a command anywhere in a line, such as ##[error] and ##vso[..].
 SERVER_COMMAND = re.compile(r"##(?=[a-z]*\[)")
 OWN_FILE = os.O_WRONLY | os.O_CREAT | os.O_EXCL | os.O_NOFOLLOW | os.O_CLOEXEC
 
 
 class WriteError(Exception):
-    """A file can't be written, or may not be; the message says why, without the file's name."""
+    """Raised if a file can't or mustn't be written; the message says why, without the file's name."""
 
 
 def is_seen(letter: str) -> bool:
-    """Returns whether a character shows itself and nothing else: no control code, mark of direction, line end or lone half."""
+    """Returns whether a character can be seen. Control codes, marks of direction, line ends and lone surrogates can't."""
     return letter.isprintable() and letter not in UNSEEN
 
 
@@ -38,27 +38,27 @@ def _escape(letter: str) -> str:
 
 
 def escaped(text: str, but: str = "") -> str:
-    """Returns a text with everything that doesn't show itself written as an escape, except some characters."""
+    """Returns a text in which characters that can't be seen, except those in `but`, are written as escapes."""
     if text.isascii() and text.isprintable():
         return text
     return "".join(it if is_seen(it) or it in but else _escape(it) for it in text)
 
 
 def visible(text: str) -> str:
-    """Returns a text with everything that a terminal or a build server could take as a command written as an escape."""
+    """Returns a text in which everything that a terminal or a build server could take for a command is an escape."""
     shown = escaped(text)
     return SERVER_COMMAND.sub(r"#\\x23", shown) if "##" in shown else shown
 
 
 def line(text: str) -> str:
-    """Returns a text as a line that shows it, also where a build server reads it: no line that it shows begins with `::`."""
+    """Returns a text to be written as a line of its own; like `visible`, and it never begins with `::`, a command too."""
     shown = visible(text)
     start = len(shown) - len(shown.lstrip())
     return shown[:start] + "\\x3a" + shown[start + 1:] if shown.startswith("::", start) else shown
 
 
 def _data(text: str) -> str:
-    """A text as the message of a workflow command: what would end it is coded; what else can't be seen is an escape."""
+    """A text as the message of a workflow command: characters that would end it are coded, others as in `visible`."""
     coded = {"%": "%25", "\r": "%0D", "\n": "%0A"}
     return "".join(coded.get(it) or visible(it) for it in re.split("([%\r\n])", text))
 
@@ -69,17 +69,18 @@ def _property(text: str) -> str:
 
 
 def workflow_command(level: str, properties: List[Tuple[str, str]], message: str) -> str:
-    """Returns a line by which a build server shows a message: a level (error, warning or notice), and properties as file."""
+    """Returns a line that makes a build server show a message; `level` is error, warning or notice."""
     parts = ",".join(f"{name}={_property(value)}" for name, value in properties)
     return f"::{level} {parts}::{_data(message)}"
 
 
 def replace_file(path: str, data: bytes, was: Optional[bytes] = None, within: str = os.curdir) -> List[str]:
-    """Puts bytes in the place of a file, or makes it: written beside it, flushed and renamed, so it is the old one or the new.
+    """Replaces the content of a file, or creates the file.
 
-    Its mode and owner are kept; returns in words what couldn't be kept. Raises WriteError where it is a link or no regular
-    file, where it lies in the folder `within` and a name between the two is a link, where it can't be written, and, if `was`
-    says what has to be in it, where it has something else. Then the old file stays as it was.
+    The bytes are written to a file beside it, flushed, and renamed, so the file is always the old or the new one. Its mode and
+    owner are kept; returns words for each thing that couldn't be kept. Raises WriteError, and leaves the old file as it was,
+    if it can't be written, is a link or not a regular file, or lies in the folder `within` and is reached by a link; and if
+    `was` is given and isn't its content.
     """
     names = names_below(path, within)
     try:
@@ -113,7 +114,7 @@ def _replace(folder: int, name: str, data: bytes, was: Optional[bytes]) -> List[
 
 
 def _status(folder: int, name: str) -> Optional[os.stat_result]:
-    """What is known of a file that is there. Raises WriteError where it isn't a regular one."""
+    """The status of a file, or None if it isn't there. Raises WriteError if it isn't a regular file."""
     try:
         found = os.stat(name, dir_fd=folder, follow_symlinks=False)
     except FileNotFoundError:
@@ -124,7 +125,7 @@ def _status(folder: int, name: str) -> Optional[os.stat_result]:
 
 
 def _keep(file: int, old: os.stat_result) -> List[str]:
-    """Gives a new file the owner and the mode of the old one; returns in words what it can't be given."""
+    """Gives a new file the owner and the mode of the old one; returns words for each thing that it can't be given."""
     lost = []
     new = os.fstat(file)
     if (new.st_uid, new.st_gid) != (old.st_uid, old.st_gid):
@@ -132,7 +133,7 @@ def _keep(file: int, old: os.stat_result) -> List[str]:
             os.fchown(file, old.st_uid, old.st_gid)
         except OSError:
             lost.append("it has another owner or group now")
-    # (a file that changed its owner must not run with the rights of the new one)
+    # (a file that got another owner mustn't run with the rights of that owner)
     os.fchmod(file, stat.S_IMODE(old.st_mode) & (0o777 if lost else 0o7777))
     if old.st_nlink > 1:
         others = old.st_nlink - 1

@@ -94,7 +94,7 @@ def _begin(job: Dict[str, Any], tools: Dict[str, Any]) -> int:
 
 
 def run(jobs: List[Dict[str, Any]], tools: Dict[str, Any], at_once: int) -> List[Tuple[Optional[int], float, float]]:
-    """Runs all jobs, so many at a time."""
+    """Runs all jobs, `at_once` at a time."""
     answers: Dict[int, Tuple[Optional[int], float, float]] = {}
     running: Dict[int, Tuple[int, float]] = {}
     left = list(enumerate(jobs))[::-1]

@@ -157,7 +157,7 @@ def _put_bare(made: Repository) -> None:
 
 
 def slow_source(patterns: int) -> str:
-    """A source with so many patterns that take relint some seconds each, and a finding behind them."""
+    """A source with this number of patterns that take relint some seconds each, and a finding behind them."""
     letters = [chr(ord("a") + at) for at in range(26)] + [chr(ord("A") + at) for at in range(14)]
     lines = ["import re"]
     for number in range(patterns):

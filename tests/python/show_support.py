@@ -49,7 +49,7 @@ def no_program() -> str:
 def why_checked(reason: str) -> str:
     """Returns what the tools say of spans that are checked for this reason; without relint-spans that is the reason."""
     try:
-        program.spans_program()
+        program.program(program.SPANS)
     except program.ProgramError as error:
         reason = str(error)
     return f"checked: {reason}" if reason else "proved"

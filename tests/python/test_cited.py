@@ -5,7 +5,7 @@ import os
 import re
 import unittest
 from pathlib import Path
-from typing import Dict, Iterator, List, Set, Tuple
+from typing import Dict, Iterator, List, Set
 
 TOP = Path(__file__).resolve().parents[2]
 CRATES = TOP / "crates"
@@ -15,8 +15,6 @@ FILE = re.compile(r"`([\w./-]+\.(?:rt|antt))`")
 # `FILE` (`ITEM`), and `ITEM` (`FILE`)
 FILE_WITH_ITEM = re.compile(r"`([\w./-]+\.(?:rt|antt))` \(`(\w+)`\)")
 ITEM_WITH_FILE = re.compile(r"`(\w+)` \(`([\w./-]+\.(?:rt|antt))`")
-# names of wrong bodies, and the crate that they belong to
-BODIES = re.compile(r"((?:`[\w-]+`(?:, )?)+) \(`(\w+)`\)")
 
 
 def pages() -> Iterator[Path]:
@@ -48,13 +46,11 @@ def sources() -> Dict[str, List[Path]]:
     return found
 
 
-def promises() -> Iterator[Tuple[str, str]]:
-    """The wrong bodies and the rows of each promise in `docs/PROVED.md`."""
-    section = prose(TOP / "docs" / "PROVED.md").split("\n## The promises\n", 1)[1].split("\n## ", 1)[0]
-    for line in section.splitlines():
-        cells = line.strip("|").split("|")
-        if len(cells) == 4 and "`" in line:
-            yield cells[2], cells[3]
+def promises() -> Iterator[List[str]]:
+    """The lines of `docs/data/wrong_bodies.tsv`: a contract, its crate, a wrong body, worked rows, what the body does."""
+    lines = (TOP / "docs" / "data" / "wrong_bodies.tsv").read_text(encoding="utf-8").splitlines()
+    for line in lines[1:]:
+        yield line.split("\t")
 
 
 class Cited(unittest.TestCase):
@@ -92,11 +88,12 @@ class Cited(unittest.TestCase):
     def test_wrong_bodies_and_rows(self) -> None:
         data = "".join(it.read_text(encoding="utf-8") for it in (CRATES / "rows" / "data").glob("*.toml"))
         rows = set(re.findall(r'^name = "([^"]+)"', data, re.MULTILINE))
-        for bodies, shown in promises():
-            for names, crate in BODIES.findall(bodies):
-                for name in re.findall(r"`([\w-]+)`", names):
-                    self.assertTrue((CRATES / crate / "must-fail" / (name + ".edit")).is_file(), "%s of %s" % (name, crate))
-            self.assertLessEqual(set(re.findall(r"`([\w-]+)`", shown)), rows)
+        for contract, crate, body, shown, _ in promises():
+            self.assertTrue((CRATES / crate / "must-fail" / (body + ".edit")).is_file(), "%s of %s" % (body, crate))
+            code = "".join(it.read_text(encoding="utf-8") for it in (CRATES / crate / "src").rglob("*.rt"))
+            self.assertRegex(code, r"\b(fn|law|lemma) %s\b" % contract.rpartition(":")[2])
+            if shown != "-":
+                self.assertLessEqual(set(shown.split(", ")), rows)
 
 
 if __name__ == "__main__":

@@ -1,16 +1,16 @@
-"""The table of limits in docs/USAGE.md: each number in it is that of the constant which decides."""
+"""The limits in docs/USAGE.md: each number in it is that of the constant which decides."""
 from __future__ import annotations
 
 import re
 import unittest
 from pathlib import Path
-from typing import Dict, List
+from typing import Dict
 
 TOP = Path(__file__).resolve().parents[2]
 PAGE = TOP / "docs" / "USAGE.md"
 CONSTANT = re.compile(r"^ *(?:pub(?:\(crate\))? )?const ([A-Z_]+): [a-z0-9]+ = ([0-9_]+);$", re.MULTILINE)
 NUMBER = re.compile(r"[0-9][0-9,]*")
-# the constant that decides, for what a row names first
+# the constant that decides, for what a line names first
 DECIDES = {
     "characters of a pattern": "rl_pattern/src/limits.rt MOST_CODES",
     "open groups": "rl_pattern/src/limits.rt MOST_OPEN_GROUPS",
@@ -26,16 +26,16 @@ DECIDES = {
     "bytes of a baseline or a certificate": "rl_sarif/src/limits.rt MOST_BASELINE_BYTES",
     "levels of folders": "rl_walk/src/walking.rt MOST_LEVELS",
 }
-# the row whose number stands in the code without a name
+# the line whose number is in the code without a name
 UNNAMED = ("the number in `{m,n}`",)
 
 
-def rows() -> Dict[str, List[str]]:
-    """The cells of each row of the table, by its first one."""
+def rows() -> Dict[str, str]:
+    """What is said of each limit, by what its line names first."""
     text = PAGE.read_text(encoding="utf-8")
-    table = text.split("\n## Limits\n", 1)[1].strip().split("\n\n", 1)[0]
-    cells = [[cell.strip() for cell in line.strip("|").split("|")] for line in table.splitlines()[2:]]
-    return {row[0]: row[1:] for row in cells}
+    section = text.split("\n## Limits\n", 1)[1].split("\n## ", 1)[0]
+    lines = [line[2:].split(": ", 1) for line in section.splitlines() if line.startswith("- ")]
+    return {name: said for name, said in lines}
 
 
 def value_of(constant: str) -> int:
@@ -47,16 +47,16 @@ def value_of(constant: str) -> int:
 
 @unittest.skipUnless((TOP / "crates").is_dir(), "the sources of the program aren't here")
 class Limits(unittest.TestCase):
-    """The rows of the table."""
+    """The lines of the section."""
 
     def test_each_row_is_known(self) -> None:
         self.assertEqual(sorted(rows()), sorted([*DECIDES, *UNNAMED]))
 
     def test_each_number_is_that_of_its_constant(self) -> None:
-        table = rows()
+        said = rows()
         for first, constant in DECIDES.items():
             with self.subTest(row=first):
-                most = NUMBER.findall(table[first][1])[-1]
+                most = NUMBER.findall(said[first])[0]
                 self.assertEqual(int(most.replace(",", "")), value_of(constant))
 
 

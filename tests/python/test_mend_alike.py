@@ -144,7 +144,7 @@ class Asking(StandIn):
         os.chdir(self.room)
         with mock.patch.dict(os.environ, {"RELINT_SPANS": "relint-spans", "PATH": os.pathsep.join(("", ".", "/usr/bin"))}):
             with self.assertRaises(program.ProgramError):
-                program.spans_program()
+                program.program(program.SPANS)
 
 
 class Calls(StandIn):

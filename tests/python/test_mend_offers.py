@@ -9,7 +9,7 @@ from relint.mend import Limits, mend, notes
 from relint.mend.asking import Asker
 from relint.mend.judge import Judgement
 from relint.mend.near import advice
-from relint.mend.offers import ADVICE, FIX, is_for_python_2, kind_of, literal_of, needs_python_3, offered, suggested
+from relint.mend.offers import ADVICE, FIX, fix_or_advice, is_for_python_2, literal_of, needs_python_3, offered, suggested
 from relint.mend.same import DIFFERENT, SAME, UNKNOWN, How, how_of, how_used, same_spans, same_unplaced
 from relint.mend.search import distance
 from relint.mend.tree import read
@@ -56,7 +56,7 @@ class Kinds(unittest.TestCase):
     def test_fix_or_advice(self) -> None:
         for how, judged, wanted in KINDS:
             with self.subTest(how=how, judged=judged):
-                self.assertEqual(kind_of(how, judged), wanted)
+                self.assertEqual(fix_or_advice(how, judged), wanted)
 
     def test_spans_for_the_calls_at_hand(self) -> None:
         for old, new, how, wanted in SPANS:

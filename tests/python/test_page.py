@@ -341,7 +341,7 @@ def hostile_page() -> Ran:
 
 
 def large_report(count: int) -> bytes:
-    """A report with so many entries, of every kind."""
+    """A report with `count` entries, of every kind."""
     entries: List[Dict[str, Any]] = []
     for number in range(count):
         entry: Dict[str, Any] = {"path": f"packages/part{number // 40 % 97}/module_with_a_long_name_{number // 4}.py",

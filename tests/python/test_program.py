@@ -70,7 +70,8 @@ class Found(unittest.TestCase):
         environment = mock.patch.dict(os.environ, PATH=os.defpath)
         environment.start()
         self.addCleanup(environment.stop)
-        os.environ.pop("RELINT", None)
+        for it in (program.RELINT, program.SPANS):
+            os.environ.pop(it.variable, None)
 
     def record(self, path: str, size: int) -> None:
         note = self.packages / "relint-1.0.0.dist-info" / "RECORD"
@@ -84,6 +85,25 @@ class Found(unittest.TestCase):
         self.assertEqual(program.located(), other)
         self.record("../../../bin/relint", len(CANARY))
         self.assertEqual(program.located(), installed)
+
+    def test_each_program_is_found_by_its_own_name(self) -> None:
+        for it in (program.RELINT, program.SPANS):
+            os.environ["PATH"] = os.path.dirname(put(self.top / "other" / it.name, CANARY))
+            self.assertEqual(program.located(it), str(self.top / "other" / it.name))
+            os.environ[it.variable] = put(self.top / "named" / it.name, CANARY)
+            self.assertEqual(program.located(it), str(self.top / "named" / it.name))
+            os.environ[it.variable] = str(self.top / "nosuch")
+            with self.assertRaisesRegex(program.ProgramError, f"^{it.variable} names .*nosuch, which can't be run"):
+                program.located(it)
+
+    def test_that_of_a_clone_once_it_has_a_program(self) -> None:
+        put(self.packages.parent / "crates.txt", "")
+        for it in (program.RELINT, program.SPANS):
+            script = put(self.packages.parent / it.script, CANARY)
+            with self.assertRaisesRegex(program.ProgramError, f"{script} isn't built yet: .* in {it.variable}"):
+                program.located(it)
+            put(self.packages.parent / it.built[0], CANARY)
+            self.assertEqual(program.located(it), script)
 
     def test_one_that_is_of_another_size(self) -> None:
         put(self.top / "bin" / "relint", CANARY)

@@ -187,8 +187,11 @@ class Judged(unittest.TestCase):
                 self.assertTrue(row.given == "safe" or known.is_found(row, row.expected) or row.why)
 
     def test_the_table_of_known_patterns_is_current(self) -> None:
-        text = (show_support.TOP / "docs" / "EVIDENCE.md").read_text(encoding="utf-8")
-        self.assertTrue(known.text_of(known.rows()) in text, "bench/known --write writes it anew")
+        rows = known.rows()
+        table = (show_support.TOP / "bench" / "data" / "known.tsv").read_text(encoding="utf-8")
+        self.assertTrue(known.table_of(rows) == table, "bench/known --write writes it anew")
+        page = (show_support.TOP / "docs" / "EVIDENCE.md").read_text(encoding="utf-8")
+        self.assertTrue(known.text_of(rows) in page, "bench/known --write writes it anew")
 
 
 if __name__ == "__main__":

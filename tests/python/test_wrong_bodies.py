@@ -1,10 +1,9 @@
 """Wrong bodies, those of the gate and those of tools/wrong-bodies: each can be applied, and the tool knows its crates."""
 from __future__ import annotations
 
-import re
 import unittest
 from pathlib import Path
-from typing import Dict, List, Set, Tuple
+from typing import Dict, List, Set
 
 from show_support import TOP, tool
 
@@ -72,14 +71,10 @@ class WrongBodies(unittest.TestCase):
         self.assertEqual(without, {"relint", "relint_spans", "rows", "unit_tests", "worked_rows"})
 
     def test_named_ones_are_in_the_gate(self) -> None:
-        """Those of the table of named wrong bodies in docs/PROVED.md, each in the crate that the table gives."""
-        page = (TOP / "docs" / "PROVED.md").read_text(encoding="utf-8")
-        table = page.partition("## Named wrong bodies")[2].partition("\n## ")[0]
-        cells = "".join(line.split("|")[2] for line in table.splitlines() if line.startswith("| "))
-        told: Set[Tuple[str, str]] = set()
-        for names, crate in re.findall(r"((?:`\w+`(?:, )?)+) \(`(\w+)`\)", cells):
-            told.update((crate, name) for name in re.findall(r"\w+", names))
-        self.assertGreaterEqual(len(told), 16)
+        """Those of docs/data/wrong_bodies.tsv, each in the crate that the table gives."""
+        lines = (TOP / "docs" / "data" / "wrong_bodies.tsv").read_text(encoding="utf-8").splitlines()[1:]
+        told = {(line.split("\t")[1], line.split("\t")[2]) for line in lines}
+        self.assertGreaterEqual(len(told), 36)
         self.assertEqual(told - {(crate_of(edit), edit.stem) for edit in of_the_gate()}, set())
 
 

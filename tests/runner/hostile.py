@@ -18,7 +18,7 @@ from runner import scratch
 from runner.programs import TREE, Program, run_command
 from runner.results import Failed, Result
 
-# The runs are shared out to so many copies of the repository, since each run's changes have to be seen.
+# The runs are shared out to this many copies of the repository, since each run's changes have to be seen.
 _COPIES = 3
 Judged = List[Tuple[str, List[str]]]
 

@@ -7,6 +7,7 @@ from dataclasses import dataclass
 from pathlib import Path
 from typing import Dict, List, Optional
 
+from relint import program
 from runner.results import Failed
 
 TREE = Path(__file__).resolve().parent.parent.parent
@@ -60,15 +61,19 @@ class Program:
 
 
 def tested_spans() -> Optional[Path]:
-    """The program relint-spans that is tested: the one that `RELINT_SPANS` names, else that of release/, else the one that was
-    built here; None if there is none."""
-    named = os.environ.get("RELINT_SPANS", "")
+    """The file of relint-spans that is tested, or None if there is none.
+
+    It is what the tools run; in place of the script of this tree, it is the program that the script runs.
+    """
+    try:
+        found = Path(program.located(program.SPANS))
+    except program.ProgramError:
+        return None
+    if found != TREE / program.SPANS.script:
+        return found
     released = TREE / "release" / os.uname().machine / "relint-spans"
-    built = TREE / "crates" / "relint_spans" / "out" / "relint_spans"
-    for path in [Path(os.path.abspath(named))] if named else [released, built]:
-        if path.is_file():
-            return path
-    return None
+    built = TREE / program.SPANS.built[0]
+    return next((it for it in (released, built) if it.is_file()), None)
 
 
 _LAUNCHER = TREE / "relint"
@@ -82,10 +87,10 @@ def tested_program() -> Program:
     return Program(Path(os.path.abspath(named)) if named else _LAUNCHER)
 
 
-def behind_launcher(program: Program) -> Program:
-    """The program that `./relint` runs, where it has just been called and noted it; so many calls needn't look at the tree."""
-    if program.path != _LAUNCHER or not _STAMP.is_file():
-        return program
+def behind_launcher(tested: Program) -> Program:
+    """The program that `./relint` runs, if it has just been called and noted it; then later calls needn't look at the tree."""
+    if tested.path != _LAUNCHER or not _STAMP.is_file():
+        return tested
     first = _STAMP.read_text(encoding="utf-8").splitlines()[:1]
     path = TREE / first[0] if first and first[0] else _LAUNCHER
-    return Program(path) if path.is_file() and os.access(str(path), os.X_OK) else program
+    return Program(path) if path.is_file() and os.access(str(path), os.X_OK) else tested

@@ -13,13 +13,12 @@ from functools import partial
 from pathlib import Path
 from typing import Callable, Dict, List, Set, Tuple
 
+from relint_build.program import MACHINES, PROGRAMS
 from runner import elf, scratch
-from runner.scratch import PROGRAMS
 from runner.examples import FINDING
 from runner.programs import TREE, Program, run_command
 from runner.results import Failed, Result, Skipped
 
-MACHINES = ("x86_64", "aarch64")
 _SYMBOLS = 2
 _BUILD_ID = ("GNU", 3)
 _OLDEST_KERNEL = ("GNU", 1)

@@ -10,11 +10,10 @@ import subprocess
 from pathlib import Path
 from typing import Dict, List
 
+from relint_build.program import PROGRAMS
 from runner.programs import TREE, Program, clean_environment, run_command, tested_spans
 from runner.results import Failed, Skipped
 
-# the programs that release/ can hold, each with what the keys of release/INFO about it begin with
-PROGRAMS = {"relint": "", "relint-spans": "spans-"}
 _LEFT_OUT = {".git", "out", "__pycache__", ".mypy_cache", "node_modules", ".venv"}
 
 

@@ -1,4 +1,4 @@
-"""Asks relint-spans whether two patterns find the same spans and groups. What it answers is proved."""
+"""Asks relint-spans whether two patterns find the same spans and groups. Its answers are proved."""
 from __future__ import annotations
 
 import ast
@@ -14,26 +14,26 @@ from dataclasses import dataclass
 from typing import Any, Dict, Optional, Tuple
 
 from ..flags import JUDGED, VALUES, letters
-from ..program import ProgramError, spans_program
+from ..program import SPANS, ProgramError, program
 from ..reports import Text
 
 SAME, DIFFER, UNKNOWN = "same", "differ", "unknown"
-# What a call does with a position: from every place, for the whole text from every place, or one search from the text's start.
+# The modes: matches from every place, matches of the whole text from every place, and one search from the text's start.
 EVERYWHERE, WHOLE, ONE_SEARCH = "search", "fullmatch", "one-search"
-# A question that takes longer has no answer; the pairs that it may look at end nearly all of them within milliseconds.
+# A question that takes longer has no answer. relint-spans has a limit of pairs that ends nearly all within milliseconds.
 SECONDS = 20.0
 MOST_OF_AN_ANSWER = 1 << 20
-# flags that don't change what a pattern finds
+# Flags that don't change what a pattern finds.
 _WITHOUT_EFFECT = re.UNICODE | re.DEBUG
 _KNOWN = sum(VALUES[it] for it in JUDGED)
 
 
 @dataclass(frozen=True)
 class Said:
-    """What relint-spans said: `word` is same, differ or unknown, and `reason` says why it isn't known.
+    """The answer of relint-spans: `word` is same, differ or unknown, and `reason` says why it isn't known.
 
-    For a difference, both patterns find different matches in `text` from the place `start`; `may_be_empty` is false where only
-    the first match that isn't empty differs. `only_groups` says that both matches have the same span.
+    If they differ, the patterns find different matches in `text` from the place `start`. `may_be_empty` is False if they
+    differ only when empty matches don't count. `only_groups` says that both matches have the same span.
     """
 
     word: str
@@ -45,7 +45,7 @@ class Said:
 
 
 class Alike:
-    """A process of relint-spans that answers one question after another. It is begun with the first question."""
+    """A process of relint-spans that answers one question after another. It is started for the first question."""
 
     def __init__(self, seconds: float = SECONDS) -> None:
         self.seconds = seconds
@@ -55,7 +55,7 @@ class Alike:
         self._answers: Dict[Tuple[Text, Text, int, str], Said] = {}
 
     def ask(self, first: Text, second: Text, flags: int, mode: str) -> Said:
-        """Returns what is said of two patterns in a mode."""
+        """Returns the answer for two patterns in a mode. Answers are kept."""
         key = (first, second, flags, mode)
         with self._lock:
             if key not in self._answers:
@@ -87,7 +87,7 @@ class Alike:
             return Said(UNKNOWN, str(error) or type(error).__name__)
 
     def _answer(self, line: bytes) -> bytes:
-        """The line that is answered to this line. Raises OSError and ProgramError."""
+        """The line with which relint-spans answers this line. Raises OSError and ProgramError."""
         process = self._begun()
         assert process.stdin and process.stdout
         process.stdin.write(line)
@@ -104,11 +104,12 @@ class Alike:
         return found
 
     def _begun(self) -> "subprocess.Popen[bytes]":
+        """The process, which is started if there is none. Raises ProgramError if relint-spans isn't there."""
         if self._missing:
             raise ProgramError(self._missing)
         if self._process is None:
             try:
-                words = [spans_program(), "-"]
+                words = [program(SPANS), "-"]
             except ProgramError as error:
                 self._missing = str(error)
                 raise
@@ -121,7 +122,7 @@ def _as_text(pattern: Text) -> str:
 
 
 def _read(line: bytes) -> Said:
-    """Reads an answer. Raises ValueError, KeyError or TypeError if it is none."""
+    """Reads an answer. Raises ValueError, KeyError or TypeError if the line isn't one."""
     said: Dict[str, Any] = json.loads(line)
     word = said["answer"]
     if word == SAME:
@@ -142,5 +143,5 @@ atexit.register(_shared.close)
 
 
 def shared() -> Alike:
-    """Returns the one process that all questions of this Python go to."""
+    """Returns the process that answers all questions of this Python process."""
     return _shared

@@ -1,7 +1,7 @@
-"""The classes of characters that a pattern, or two of them, tell apart, and how a set of these is written.
+"""The classes of characters that one or two patterns tell apart, and how a set of characters is written.
 
-The codes of all sets fall into *atoms*: two codes are in one atom where every set holds both or neither. A set that the atoms
-make up is a *mask*, a whole number with one bit for each of its atoms.
+The codes are divided into *atoms*: two codes are in the same atom if every set holds both or neither of them. A set made of
+atoms is written as a *mask*, a whole number with one bit for each of its atoms.
 """
 from __future__ import annotations
 
@@ -20,10 +20,10 @@ MOST_WIDE_RANGES = 3
 
 
 class Alphabet:
-    """The atoms of some sets of codes, under the flags that hold for the whole pattern."""
+    """The atoms of some sets of codes, under the flags of the whole pattern."""
 
     def __init__(self, sets: Iterable[Ranges], flags: int, top: int, set_of: Callable[[str], Optional[Ranges]]) -> None:
-        """Takes the sets, the flags, the last code of the universe, and what reads the text of a class as a set."""
+        """Takes the sets, the flags and the highest code; `set_of` returns the set that the text of a class stands for."""
         self.flags = flags
         self.top = top
         self._set_of = set_of
@@ -37,6 +37,7 @@ class Alphabet:
         self._shown: Dict[int, Optional[str]] = {}
 
     def _split(self, sets: Sequence[Ranges]) -> Tuple[Ranges, ...]:
+        """Returns the atoms of the sets, by their first codes, and notes the mask of each set."""
         turns: Dict[int, int] = {0: 0}
         for number, ranges in enumerate(sets):
             for first, last in ranges:
@@ -53,30 +54,30 @@ class Alphabet:
         return tuple(codes.merged(parts[it]) for it in signs)
 
     def mask(self, ranges: Ranges) -> int:
-        """Returns the mask of one of the sets that the alphabet was made of."""
+        """Returns the mask of one of the sets from which the alphabet was made."""
         return self._masks[ranges]
 
     def category(self, letter: str) -> int:
-        r"""Returns the mask of `\d`, `\s`, `\w` or a complement of these."""
+        r"""Returns the mask of `\d`, `\s`, `\w`, `\D`, `\S` or `\W`."""
         return self._masks[self._categories[letter]]
 
     def word(self, ascii_only: bool) -> int:
-        """Returns the mask of the word characters that a word boundary looks for."""
+        """Returns the mask of the word characters for a word boundary; the alphabet has to be made from that set too."""
         return self._masks[codes.up_to(codes.named("w", ascii_only), self.top)]
 
     def ranges(self, mask: int) -> Ranges:
-        """Returns the codes of a mask."""
+        """Returns the set of the codes in a mask."""
         return codes.merged(pair for at, atom in enumerate(self.atoms) if mask >> at & 1 for pair in atom)
 
     def atom(self, code: int) -> int:
-        """Returns the mask of the one atom that holds the code."""
+        """Returns the mask of the atom that holds the code, or 0 if none does."""
         for at, ranges in enumerate(self.atoms):
             if any(first <= code <= last for first, last in ranges):
                 return 1 << at
         return 0
 
     def code(self, mask: int) -> int:
-        """Returns one code of a mask that isn't empty: a printing one of ASCII where there is one, else the least."""
+        """Returns one code of a mask that isn't empty: a printable ASCII code if there is one, otherwise the lowest code."""
         ranges = self.ranges(mask)
         for wanted in (97, 48, 33):
             for first, last in ranges:
@@ -85,7 +86,7 @@ class Alphabet:
         return ranges[0][0]
 
     def show(self, mask: int) -> Optional[str]:
-        """Returns a text of one character or one class that matches exactly the mask, or None where none was found."""
+        """Returns the shortest text found for a character or class that matches exactly the mask; None if none was found."""
         if mask not in self._shown:
             wanted = self.ranges(mask)
             fitting = [it for it in self._texts(mask, wanted) if self._set_of(it) == wanted]
@@ -93,6 +94,7 @@ class Alphabet:
         return self._shown[mask]
 
     def _texts(self, mask: int, wanted: Ranges) -> Iterable[str]:
+        """Yields texts that may match exactly the mask; `wanted` is its set."""
         if mask == self.full:
             yield "." if self.flags & re.DOTALL else "[\\s\\S]"
             return
@@ -113,6 +115,7 @@ class Alphabet:
                     yield f"(?-i:[{sign}{inside}])"
 
     def _insides(self, mask: int) -> Iterable[str]:
+        """Yields texts for the inside of a class, with up to two categories such as `d` and the remaining ranges."""
         inner = [it for it in CATEGORIES if self.category(it) & ~mask == 0]
         for count in range(3):
             for taken in combinations(inner, count):
@@ -124,7 +127,7 @@ class Alphabet:
     def _written(self, front: str, rest: Ranges) -> Iterable[str]:
         """Yields texts for the inside of a class: `front` and the ranges, unless too many of these are above 127.
 
-        Under IGNORECASE there is also one without the ranges above 127, as the other letters may match these codes too.
+        Under IGNORECASE it also yields a text without the ranges above 127, since the other letters may match these codes too.
         """
         narrow = [(first, min(last, 127)) for first, last in rest if first < 128]
         wide = [(max(first, 128), last) for first, last in rest if last >= 128]
@@ -140,7 +143,7 @@ class Alphabet:
         return self.escape(first, True) + "-" + self.escape(last, True)
 
     def escape(self, code: int, in_class: bool) -> str:
-        """Returns the text of one code, alone or inside a class."""
+        """Returns the text of one code, inside a class if `in_class`, otherwise outside."""
         if code in PLAIN_ESCAPES:
             return PLAIN_ESCAPES[code]
         letter = chr(code)

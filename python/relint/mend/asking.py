@@ -1,7 +1,7 @@
 """Asks relint about patterns, with few processes.
 
-Classes are asked for many patterns at once: `relint check` reads a source that is made up of calls with these patterns.
-`relint compare` takes two patterns as words, one run for each question. Answers are kept, so nothing is asked twice.
+The classes of many patterns are asked at once: `relint check` reads a source made of calls with these patterns. `relint
+compare` takes two patterns as arguments, and needs a run for each question. Answers are kept, so nothing is asked twice.
 """
 from __future__ import annotations
 
@@ -19,7 +19,7 @@ from ..reports import ReportError, Verdict, read_report, read_text
 Text = Union[str, bytes]
 
 MODES = ("fullmatch", "match", "search")
-# No question takes so long that relint's own limits end; it is a way out where a process hangs.
+# A way out if a process hangs. relint's own limits end each question earlier.
 SECONDS = 300.0
 
 
@@ -28,7 +28,7 @@ def _call(pattern: Text, flags: int, mode: str) -> str:
 
 
 class Comparison(NamedTuple):
-    """What `relint compare` said: its relation line, and texts that the first or the second pattern alone matches."""
+    """The answer of `relint compare`: the relation, and texts that only the first or only the second pattern matches."""
 
     relation: str
     first: Optional[Text] = None
@@ -36,9 +36,9 @@ class Comparison(NamedTuple):
 
 
 class Asker:
-    """Asks relint, and keeps the answers. `runs` counts the processes and `compared` the questions to `compare`.
+    """Asks relint, and keeps the answers. `runs` counts the processes, and `compared` the questions to `relint compare`.
 
-    A question that takes `seconds` has no answer.
+    A question that takes longer than `seconds` has no answer. Methods raise ProgramError if relint can't be run.
     """
 
     def __init__(self, seconds: float = SECONDS) -> None:
@@ -65,7 +65,7 @@ class Asker:
             raise ProgramError(f"{whole[0]} can't be run: {error}") from error
 
     def classes(self, patterns: Sequence[Text], flags: int, mode: str) -> List[Optional[Verdict]]:
-        """Returns the class of each pattern in the mode; None where relint refuses it or took too long."""
+        """Returns the class of each pattern in a mode, or None for a pattern that relint refuses or takes too long for."""
         new = [it for it in dict.fromkeys(patterns) if (it, flags, mode) not in self._classes]
         if new:
             for pattern, verdict in zip(new, self._judged(new, flags, mode)):
@@ -73,16 +73,18 @@ class Asker:
         return [self._classes[it, flags, mode] for it in patterns]
 
     def _judged(self, patterns: List[Text], flags: int, mode: str) -> List[Optional[Verdict]]:
+        """The classes of patterns; if one run takes too long or too much memory, they are asked in halves."""
         answers = self._checked(patterns, flags, mode)
         if answers is not None:
             return answers
         if len(patterns) == 1:
             return [None]
-        # (one pattern that takes long shall not hide the others)
+        # (one pattern that takes long mustn't hide the others)
         half = len(patterns) // 2
         return self._judged(patterns[:half], flags, mode) + self._judged(patterns[half:], flags, mode)
 
     def _checked(self, patterns: List[Text], flags: int, mode: str) -> Optional[List[Optional[Verdict]]]:
+        """The classes of patterns by one run, or None if it took too long or too much memory. Raises ProgramError."""
         source = "import re\n" + "".join(_call(it, flags, mode) for it in patterns)
         with tempfile.TemporaryDirectory(prefix="relint-mend-") as folder:
             path = os.path.join(folder, "asked.py")
@@ -102,7 +104,7 @@ class Asker:
         return [found.get(at + 2) for at in range(len(patterns))]
 
     def compare(self, left: Text, right: Text, flags: int, mode: str) -> Comparison:
-        """Returns what `relint compare` says, or "not asked" where a pattern can't be a word or took too long."""
+        """Returns the answer of `relint compare`; "not asked" if a pattern can't be an argument or the run took too long."""
         key = (_word(left, flags), _word(right, flags), mode)
         if key not in self._comparisons:
             self._comparisons[key] = self._compared(*key)
@@ -130,12 +132,12 @@ class Asker:
         return Comparison(lines[0] if lines else "refused", first, second)
 
     def equal(self, left: Text, right: Text, flags: int, modes: Sequence[str]) -> bool:
-        """Returns whether the two match the same texts in each of the modes, proved."""
+        """Returns whether relint proves that two patterns match the same texts in each of the modes."""
         return all(self.compare(left, right, flags, it).relation == "equal" for it in modes)
 
 
 def _word(pattern: Text, flags: int) -> str:
     if isinstance(pattern, bytes):
-        # (a pattern of bytes is one of text under ASCII, seen on the codes below 256 alone)
+        # (a bytes pattern is like a text pattern under ASCII, if only codes below 256 count)
         return front(flags | re.ASCII) + pattern.decode("latin-1")
     return front(flags) + pattern

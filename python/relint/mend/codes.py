@@ -1,6 +1,6 @@
 """Sets of codes as sorted ranges, and the sets that the running Python's `re` knows by name.
 
-A set is a tuple of pairs (first, last), apart from each other and rising. Two equal sets are equal tuples.
+A set is a tuple of pairs (first, last) in rising order, with gaps between them. Equal sets are equal tuples.
 """
 from __future__ import annotations
 
@@ -16,7 +16,7 @@ NEWLINE: Ranges = ((10, 10),)
 
 
 def merged(pairs: Iterable[Tuple[int, int]]) -> Ranges:
-    """Returns the set that these pairs hold together, in any order and overlapping or not."""
+    """Returns the set of all codes in these pairs, which may come in any order and overlap."""
     found: List[Tuple[int, int]] = []
     for first, last in sorted(pairs):
         if found and first <= found[-1][1] + 1:
@@ -42,7 +42,7 @@ def complement(ranges: Ranges, top: int = TOP) -> Ranges:
 
 
 def up_to(ranges: Ranges, top: int) -> Ranges:
-    """Returns the codes of the set that aren't above `top`."""
+    """Returns the set without the codes above `top`."""
     return tuple((first, min(last, top)) for first, last in ranges if first <= top)
 
 
@@ -58,7 +58,7 @@ def _every_code() -> str:
 
 @lru_cache(maxsize=1)
 def _cased_codes() -> str:
-    """Returns the codes that have another case, and so can match a code that isn't themselves."""
+    """The characters that have another case, and so can match another character under IGNORECASE."""
     found = []
     for start in range(0, TOP, 256):
         block = _every_code()[start:start + 256]
@@ -69,7 +69,7 @@ def _cased_codes() -> str:
 
 @lru_cache(maxsize=None)
 def named(letter: str, ascii_only: bool) -> Ranges:
-    r"""Returns the set of `\d`, `\D`, `\s`, `\S`, `\w` or `\W`, as `re` has it."""
+    r"""Returns the set of codes that `\d`, `\D`, `\s`, `\S`, `\w` or `\W` matches in `re`."""
     if letter.isupper():
         return complement(named(letter.lower(), ascii_only))
     runs = re.compile(f"\\{letter}+", re.ASCII if ascii_only else 0)
@@ -77,13 +77,13 @@ def named(letter: str, ascii_only: bool) -> Ranges:
 
 
 def spelled(ranges: Ranges) -> str:
-    r"""Returns the inside of a class `[..]` that holds these codes, by numbers alone."""
+    r"""Returns the inside of a class `[..]` that matches exactly these codes, written only with escapes by number."""
     return "".join(f"\\U{first:08x}-\\U{last:08x}" for first, last in ranges)
 
 
 @lru_cache(maxsize=4096)
 def closed(ranges: Ranges, ascii_only: bool) -> Ranges:
-    """Returns the set with every code that IGNORECASE lets match one of its codes, as `re` does it."""
+    """Returns the set with every code added that `re` lets one of its codes match under IGNORECASE."""
     if not ranges:
         return ranges
     flags = re.IGNORECASE | (re.ASCII if ascii_only else 0)

@@ -1,4 +1,4 @@
-"""The command relint-mend."""
+"""relint-mend: searches for cures of costly patterns, and shows them or writes them into the sources."""
 from __future__ import annotations
 
 import argparse
@@ -38,12 +38,12 @@ LETTERS = {it.lower(): VALUES[it] for it in JUDGED}
 
 
 class Bad(Exception):
-    """What was given can't be used; the message says why."""
+    """Raised if what was given can't be used; the message says why."""
 
 
 @dataclass(frozen=True)
 class Finding:
-    """A finding with its pattern and how the code calls it, or with why it has none."""
+    """A finding with its pattern and how the code calls it, or with the reason why its pattern isn't known."""
 
     entry: Entry
     mode: str
@@ -54,19 +54,19 @@ class Finding:
     why: str = ""
 
     def chosen(self, cures: Sequence[Cure], tier: str) -> Optional[Cure]:
-        """Returns the cure to put in its place where those up to that tier are asked for: of the best tier, then class."""
+        """Returns the cure to use if cures up to this tier are asked for, or None: the best by its tier, then by its class."""
         fitting = [(self.needed(it), order(it.verdict), at) for at, it in enumerate(cures) if self.needed(it) <= tier]
         return cures[min(fitting)[2]] if fitting else None
 
     def needed(self, cure: Cure) -> str:
-        """Returns the tier that is to be asked for: a for a fix; what is of tier a and no fix counts as b."""
+        """Returns the tier that the user has to ask for to get a cure: a for a fix, otherwise its own, but at least b."""
         is_fix = self.source is not None and self.site is not None and (
             offer_of(self.source, self.site, self.how, cure).kind == FIX)
         return "a" if is_fix else max("b", cure.tier)
 
 
 def arguments() -> argparse.ArgumentParser:
-    """Returns the reader of the command's words."""
+    """Returns the parser of the tool's command line."""
     parser = Parser(
         "relint-mend", "Proposes patterns to replace costly ones, and keeps those that relint proves to match the same texts.",
         "The exit status is 0 if all findings are mended, 1 if some aren't, 2 to 6 for errors.",
@@ -92,13 +92,13 @@ def arguments() -> argparse.ArgumentParser:
 
 
 def costliest(asker: Asker, pattern: Text, flags: int) -> str:
-    """Returns the mode in which the pattern's class is worst, search before the others."""
+    """Returns the mode in which the class of a pattern is worst; of equal ones search, then match."""
     modes = ("search", "match", "fullmatch")
     return max(modes, key=lambda it: order(asker.classes([pattern], flags, it)[0]))
 
 
 class Mender:
-    """Mends patterns one after another; one that comes again has its answer already."""
+    """Searches for cures of one pattern after another, and keeps the outcomes."""
 
     def __init__(self, limits: Limits) -> None:
         self.limits = limits
@@ -106,7 +106,10 @@ class Mender:
         self._known: Dict[Tuple[Text, How, Optional[str]], Outcome] = {}
 
     def outcome(self, pattern: Text, how: How, mode: Optional[str]) -> Outcome:
-        """Returns what was found for a pattern that is called so; without a mode, its class in the costliest one counts."""
+        """Returns the outcome of the search for a pattern that is called in this way.
+
+        The class in `mode` is to become lower, or the class in the costliest mode if `mode` is None.
+        """
         key = (pattern, how, mode)
         if key not in self._known:
             self.asker.forget()
@@ -125,7 +128,7 @@ def _line(cure: Cure, shown: str) -> str:
 
 
 def said(outcome: Outcome) -> List[str]:
-    """Returns the lines of an outcome: its best cure, those of other tiers, or what there is to say."""
+    """Returns the lines for an outcome: its cures, the best one first, and notes; or advice if there is no cure."""
     lines: List[str] = []
     for cure in outcome.cures:
         text = _text(cure.pattern)
@@ -136,23 +139,24 @@ def said(outcome: Outcome) -> List[str]:
 
 
 def _why(changes: str, lines: Sequence[str]) -> List[str]:
-    """The line that says what was changed, where it wasn't said yet."""
+    """The line that says what was changed, unless it is among `lines` already."""
     line = f"  why: {changes}"
     return [] if line in lines or not changes else [line]
 
 
 def _object(outcome: Outcome) -> Dict[str, object]:
+    """An outcome as values for JSON."""
     cures = [{"pattern": _text(it.pattern), "tier": it.tier, "becomes": it.verdict.words(), "words": it.words(),
               "position": it.judgement.position, "steps": list(it.steps), "changes": it.changes()} for it in outcome.cures]
     before = outcome.before.words() if outcome.before else None
     return {"before": before, "cures": cures, "why": outcome.why, "said": [] if cures else advice(outcome)}
 
 
-# Patterns that are given as words
+# Patterns of the command line
 
 
 def mend_patterns(options: argparse.Namespace, mender: Mender) -> int:
-    """Mends the patterns among the words."""
+    """Shows cures for the patterns that --pattern gives, and returns the exit status. Raises Bad and ProgramError."""
     flags = _flags(options.flags)
     max_degree = MAX_DEGREE if options.max_degree is None else options.max_degree
     for pattern in options.pattern:
@@ -174,19 +178,20 @@ def mend_patterns(options: argparse.Namespace, mender: Mender) -> int:
 
 
 def _say(lines: Sequence[str]) -> None:
-    """Writes lines so that no terminal or build server obeys them; a line may have line ends of a source in it."""
+    """Writes lines, escaped so that they can't control a terminal or a build server. A line may contain line ends."""
     gather.write("".join(f"{line(it)}\n" for one in lines for it in escaped(one, "\n").split("\n")))
     gather.flush()
 
 
 def _still(outcome: Outcome, after: Verdict, max_degree: int) -> List[str]:
-    """The line that says that a cure leaves a finding."""
+    """The line that says that the pattern is a finding even with the cure, or nothing if it isn't."""
     if not outcome.cures or not is_finding(after, max_degree):
         return []
     return [f"  still a finding: {after.words()} is above --max-degree {max_degree}"]
 
 
 def _flags(letters: str) -> int:
+    """The flags that letters name. Raises Bad for a letter that isn't known."""
     unknown = set(letters) - set(LETTERS)
     if unknown:
         raise Bad(f"--flags takes the letters {' '.join(LETTERS)}, and not {' '.join(sorted(unknown))}")
@@ -204,7 +209,7 @@ Chosen = Dict[str, List[Tuple[Finding, Cure]]]
 
 @dataclass(frozen=True)
 class Reported:
-    """The entries of a report, its findings, the mode that compile has in it, and the options that it was made with."""
+    """The entries and findings of a report, the mode in which it judges `compile`, and the options that it was made with."""
 
     entries: Sequence[Entry]
     findings: Sequence[Entry]
@@ -217,7 +222,7 @@ class Reported:
     strict: bool = False
 
     def within(self, path: str) -> str:
-        """Returns the folder in which a file is read and written: the current one, or one that was named. Raises Bad."""
+        """Returns the folder below which a file is read and written: the current one or a named one. Raises Bad if in none."""
         try:
             return place_of(path, [*HERE, *self.folders] if self.files else self.folders)[0] or "."
         except OpenError as error:
@@ -225,11 +230,11 @@ class Reported:
 
 
 def reported(options: argparse.Namespace) -> Reported:
-    """Returns the report that the words name, or the one that a run over their paths gives. Raises Bad or GatherError."""
+    """Returns the report that the command line names, or that a run over its paths gives. Raises Bad and GatherError."""
     if options.report and options.report != "-":
         return _from_file(options)
     _refuse_missing(options.paths)
-    # (a pattern that isn't a literal of the source can't be put in its place)
+    # (only a pattern that is a literal of the source can be replaced, so relint-wide isn't needed)
     options.shows_beyond = False
     given = gather.gathered(options)
     gather.tell("relint-mend", given)
@@ -251,6 +256,7 @@ def _from_file(options: argparse.Namespace) -> Reported:
 
 
 def _order(entry: Entry) -> Tuple[str, int, int]:
+    """A key that sorts entries by path and place."""
     return (entry.path, entry.place.line, entry.place.column) if entry.place else (entry.path, 0, 0)
 
 
@@ -272,7 +278,7 @@ def _refuse_missing(paths: Sequence[str]) -> None:
 
 
 def findings_of(report: Reported) -> Iterator[Finding]:
-    """Yields the findings of a report with their patterns, as the code calls them."""
+    """Yields the findings of a report, with their patterns and how the code calls them."""
     sources = Sources([*HERE, *report.folders] if report.files else report.folders)
     run = Run([*(it.path for it in report.findings), *report.files], sources.data)
     used = as_used(report.findings, report.compile_as, lambda it: site_of(sources, it), run, report.max_pairs)
@@ -297,7 +303,7 @@ def _finding(entry: Entry, compile_as: str, sources: Sources, used: Optional[AsU
 
 @dataclass
 class Counts:
-    """What became of the findings: mended, bettered to a class that is a finding still, not as used, or left."""
+    """Counts of findings: mended, better but still a finding, not reached by a use, or left as they are."""
 
     mended: int = 0
     still: int = 0
@@ -305,7 +311,7 @@ class Counts:
     left: int = 0
 
     def words(self, is_written: bool) -> str:
-        """Returns the last line of a run over findings; `is_written` says that the files have the cures now."""
+        """Returns the last line for the findings of a report; `is_written` says that the files were changed."""
         every = self.mended + self.still + self.unused + self.left
         parts = [f"{self.mended} {'mended' if is_written else 'can be mended'}"]
         parts += [f"{self.still} better but still a finding"] if self.still else []
@@ -314,12 +320,12 @@ class Counts:
         return f"{plain.counted(every, 'finding')}: {', '.join(parts)}"
 
     def status(self) -> int:
-        """Returns the exit status: 0 where nothing is left that is a finding as it is used."""
+        """Returns the exit status: DONE if no use of a pattern is a finding any more, otherwise LEFT."""
         return LEFT if self.still or self.left else DONE
 
 
 def mend_report(options: argparse.Namespace, mender: Mender) -> int:
-    """Mends the findings of a report: says the cures, writes a diff, or writes the files."""
+    """Mends the findings of a report, and returns the exit status: shows the cures, writes a diff, or changes the files."""
     report = reported(options)
     counts = Counts()
     chosen: Chosen = {}
@@ -340,7 +346,7 @@ def mend_report(options: argparse.Namespace, mender: Mender) -> int:
 
 
 def _mended(finding: Finding, report: Reported, options: argparse.Namespace, mender: Mender, counts: Counts) -> Optional[Cure]:
-    """Says what there is for a finding, counts it, and returns the cure that is to be put in its place."""
+    """Shows the cures of a finding, counts it, and returns the cure to use, or None if there is none."""
     quiet = options.diff or options.apply
     if finding.site is None or finding.source is None:
         print(visible(f"relint-mend: {_head(finding.entry)}{finding.why}"), file=sys.stderr)
@@ -366,11 +372,13 @@ def _mended(finding: Finding, report: Reported, options: argparse.Namespace, men
 
 
 def _head(entry: Entry) -> str:
+    """The beginning of a line about an entry: its path, its place and its call."""
     place = f":{entry.place.line}:{entry.place.column}" if entry.place else ""
     return f"{visible(entry.path)}{place}: " + (f"{entry.call}: " if entry.call else "")
 
 
 def _tell(finding: Finding, outcome: Outcome, options: argparse.Namespace) -> None:
+    """Writes the outcome for a finding, as text or JSON."""
     entry = finding.entry
     if options.format == "json":
         place = {"line": entry.place.line, "column": entry.place.column} if entry.place else {}
@@ -393,7 +401,7 @@ def _offers(finding: Finding, outcome: Outcome) -> Dict[str, object]:
 
 
 def _offer_lines(finding: Finding, outcome: Outcome) -> Iterator[str]:
-    """The cures of a finding as the source would have them; one of several lines is on lines of its own."""
+    """Yields lines with the cures of a finding, as literals for the source. One of several lines comes after its line."""
     if finding.source is None or finding.site is None or outcome.before is None:
         return
     before = outcome.before.words() + ("" if outcome.mode == "search" else f" as {outcome.mode}")
@@ -411,7 +419,7 @@ def _offer_line(before: str, offer: Offer) -> str:
 
 
 def _change(options: argparse.Namespace, report: Reported, chosen: Chosen, counts: Counts) -> None:
-    """Puts the cures into their files; a file that is refused has none mended."""
+    """Puts the cures into their files, or writes the diff. The findings of a file that is refused count as left."""
     for path, every in chosen.items():
         still = sum(is_finding(cure.verdict, report.max_degree) for _, cure in every)
         try:
@@ -435,7 +443,7 @@ def _change(options: argparse.Namespace, report: Reported, chosen: Chosen, count
 
 
 def _put(change: Change, finding: Finding, cure: Cure, compile_as: str) -> None:
-    """Puts a cure into a file, with the class that relint has for it in the mode of the report."""
+    """Puts a cure into a file in memory, with its class in the mode of the report. Raises Unchangeable and ProgramError."""
     mode = mode_of(finding.entry.call, compile_as)
     verdict = cure.verdict if mode == finding.mode else Asker().classes([cure.pattern], finding.how.flags, mode)[0]
     if finding.site is not None and verdict is not None:
@@ -443,7 +451,7 @@ def _put(change: Change, finding: Finding, cure: Cure, compile_as: str) -> None:
 
 
 def _check_words(parser: argparse.ArgumentParser, options: argparse.Namespace) -> None:
-    """Ends the command where the words don't go together."""
+    """Ends the tool with an error if options contradict each other."""
     if sum(map(bool, (options.pattern, options.report, options.paths or options.tracked))) > 1:
         parser.error("give paths, --pattern or --report, and only one of these")
     if options.diff and options.apply:
@@ -455,11 +463,11 @@ def _check_words(parser: argparse.ArgumentParser, options: argparse.Namespace) -
 
 
 def main(words: Optional[Sequence[str]] = None) -> int:
-    """Runs the command; returns its status: 0 all mended, 1 some left, 2 bad words or input, 130 interrupted."""
+    """Runs the tool; returns its exit status: 0 if all is mended, 1 if something is left, others for errors."""
     parser = arguments()
     options = gather.parsed(parser, words)
     _check_words(parser, options)
-    # (literals may hold escapes that newer versions of Python warn of when they are read)
+    # (newer versions of Python warn about some escapes in literals when they evaluate them)
     warnings.filterwarnings("ignore", category=DeprecationWarning)
     warnings.filterwarnings("ignore", category=SyntaxWarning)
     mender = Mender(Limits(options.tries, options.steps, options.work))

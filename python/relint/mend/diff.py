@@ -1,7 +1,7 @@
 """Puts cures into sources: as a unified diff, or into the files.
 
-The literals of a pattern are changed at their place, each in its own spelling. A file counts as changed since the report where
-`relint check` no longer gives the entries that the report has for it; such a file is refused.
+The literals of a pattern are changed in place, and keep their kind of quotes and prefix. A file is refused if it changed since
+the report was made, that is, if `relint check` no longer gives the entries that the report has for it.
 """
 from __future__ import annotations
 
@@ -28,12 +28,12 @@ LINES = re.compile(r"[^\n]*\n|[^\n]+")
 
 
 class Unchangeable(Exception):
-    """A file or a literal can't be changed; the message says why."""
+    """Raised if a file or a literal can't be changed; the message says why."""
 
 
 @dataclass(frozen=True)
 class Edit:
-    """A piece of a source's text, by offsets, and what stands there instead."""
+    """A change of a source's text: the text between two offsets is replaced by `text`."""
 
     start: int
     end: int
@@ -42,14 +42,17 @@ class Edit:
 
 @dataclass(frozen=True)
 class Unit:
-    """What one character of a literal's value is written as, by offsets in the source."""
+    """The offsets in the source between which one character of a literal's value is written."""
 
     start: int
     end: int
 
 
 class Spelled:
-    """One literal of a source: where each character of its value is, and how new ones are written in it."""
+    """One literal of a source: says where each character of its value is, and how new characters are written in it.
+
+    Raises Unchangeable if the literal can't be read.
+    """
 
     def __init__(self, literal: Literal) -> None:
         found = LITERAL.match(literal.text)
@@ -67,6 +70,7 @@ class Spelled:
             raise Unchangeable("a literal whose escapes can't be told apart")
 
     def _units(self, content: str) -> Iterator[Unit]:
+        """Yields the unit of each character of the value; `content` is the text between the quotes."""
         pieces = re.compile(r"\r\n|[\s\S]") if self.raw else ESCAPE
         for it in pieces.finditer(content):
             start, end, text = self.start + it.start(), self.start + it.end(), it[0]
@@ -82,10 +86,11 @@ class Spelled:
                     yield Unit(at, at + 1)
 
     def _known(self, text: str) -> bool:
+        """Whether Python knows an escape in this kind of literal."""
         return text[1] in "\\'\"abfnrtv01234567x" or not self.is_bytes and text[1] in "NuU"
 
     def written(self, text: str) -> str:
-        """Returns new characters as they are written in this literal. Raises Unchangeable where they can't be."""
+        """Returns how new characters are written in this literal. Raises Unchangeable if a raw literal can't hold them."""
         if self.raw:
             if self.quote[0] in text or "\n" in text and len(self.quote) == 1 or "\r" in text:
                 raise Unchangeable("characters that a raw literal can't hold")
@@ -105,7 +110,11 @@ class Spelled:
 
 
 def _changes(old: str, new: str, borders: Sequence[int]) -> List[Tuple[int, int, str]]:
-    """Returns what changes from the old value to the new one, as pieces of the old one with what stands there instead."""
+    """Returns the changes from the old value to the new one: spans of the old value, each with its new text.
+
+    There is one change if it goes over no line end and no border between literals, otherwise as few characters as possible
+    are changed.
+    """
     start = len(os.path.commonprefix([old, new]))
     most = min(len(old), len(new)) - start
     same = len(os.path.commonprefix([old[start:][::-1], new[start:][::-1]]))
@@ -119,7 +128,7 @@ def _changes(old: str, new: str, borders: Sequence[int]) -> List[Tuple[int, int,
 
 
 def edits(site: Site, new: Text) -> List[Edit]:
-    """Returns the edits that make the site's value the new pattern. Raises Unchangeable."""
+    """Returns the edits that make the new pattern the value of the site's literals. Raises Unchangeable if there are none."""
     value, wanted = (it if isinstance(it, str) else it.decode("latin-1") for it in (site.value, new))
     try:
         spelled = [Spelled(it) for it in site.literals]
@@ -135,6 +144,7 @@ def edits(site: Site, new: Text) -> List[Edit]:
 
 
 def _in_place(spelled: List[Spelled], value: str, wanted: str) -> List[Edit]:
+    """The edits that change only what differs, each inside one literal. Raises Unchangeable."""
     borders = [0]
     for it in spelled:
         borders.append(borders[-1] + len(it.units))
@@ -152,6 +162,7 @@ def _in_place(spelled: List[Spelled], value: str, wanted: str) -> List[Edit]:
 
 
 def _edit(literal: Spelled, low: int, high: int, text: str) -> Edit:
+    """The edit that replaces some characters of a literal's value."""
     units = literal.units
     start = units[low].start if low < len(units) else literal.end
     end = units[high - 1].end if high > low else start
@@ -159,7 +170,7 @@ def _edit(literal: Spelled, low: int, high: int, text: str) -> Edit:
 
 
 def _anew(site: Site, new: Text) -> List[Edit]:
-    """Returns the edits that spell the whole pattern in the first literal, and leave the others empty."""
+    """The edits that put the whole pattern in place of the first literal, and make the others empty."""
     found = LITERAL.match(site.literals[0].text)
     quote = found[2] if found else "'"
     text = new if isinstance(new, str) else new.decode("latin-1")
@@ -171,6 +182,7 @@ def _anew(site: Site, new: Text) -> List[Edit]:
 
 
 def _value_after(site: Site, changed: Sequence[Edit]) -> Optional[Text]:
+    """The value of the site's literals after the edits, or None if they are no literals then."""
     texts: List[str] = []
     for it in site.literals:
         own = [one for one in changed if it.start <= one.start < it.end]
@@ -184,21 +196,21 @@ def _value_after(site: Site, changed: Sequence[Edit]) -> Optional[Text]:
 
 
 def applied(text: str, changed: Sequence[Edit]) -> str:
-    """Returns the text with the edits done; they don't overlap."""
+    """Returns the text after the edits, which mustn't overlap."""
     for it in sorted(changed, key=lambda one: (one.start, one.end), reverse=True):
         text = text[:it.start] + it.text + text[it.end:]
     return text
 
 
 class Change:
-    """A file with the cures that were put into it, in memory."""
+    """A file, and the cures that were put into it in memory."""
 
     def __init__(self, path: str, entries: Sequence[Entry], options: Sequence[str], within: str = ".",
                  seconds: float = SECONDS) -> None:
-        """Takes the report's entries of the file, the options of `relint check`, the folder that the file lies in, and how
-        many seconds relint may take for the file.
+        """Takes the entries that the report has for the file, the options of `relint check`, and the folder of the file.
 
-        Raises Unchangeable, as where the file isn't a regular one or is reached through a link.
+        `seconds` is how long relint may take for the file. Raises Unchangeable if the file can't be read, isn't a regular
+        file, is reached by a link, or changed since the report was made.
         """
         self.path, self.within, self.seconds = path, within, seconds
         self.options = list(options)
@@ -213,7 +225,7 @@ class Change:
             raise Unchangeable(f"{path} isn't what the report was made of: make the report anew")
 
     def put(self, entry: Entry, site: Site, new: Text, verdict: Verdict) -> None:
-        """Puts a cure in the place of the entry's pattern. Raises Unchangeable."""
+        """Puts a cure in place of the entry's pattern; `verdict` is its class. Raises Unchangeable."""
         self.edits += edits(site, new)
         self.expected.append((entry, verdict))
 
@@ -227,7 +239,7 @@ class Change:
         return front + self.text().encode("utf-8")
 
     def verify(self) -> None:
-        """Checks the changed file with relint: each changed pattern has its new class. Raises Unchangeable."""
+        """Has relint judge the changed file. Raises Unchangeable if a changed pattern doesn't have its new class."""
         after = {(it.call, number): it for number, it in enumerate(judged(self.content(), self.options, self.seconds))}
         before = judged(self.data, self.options, self.seconds)
         for entry, verdict in self.expected:
@@ -237,7 +249,7 @@ class Change:
                 raise Unchangeable(f"{self.path}: relint doesn't give the changed file the class that the cure has")
 
     def diff(self) -> bytes:
-        """Returns the unified diff, as git writes it, for `patch -p1` in the folder. Raises Unchangeable."""
+        """Returns a unified diff in git's format, for `patch -p1` in the folder. Raises Unchangeable."""
         old, new = (LINES.findall(it.decode("utf-8")) for it in (self.data, self.content()))
         name = "/".join(names_below(self.path, self.within) or [])
         lines: List[str] = []
@@ -246,9 +258,9 @@ class Change:
         return "".join(lines).encode("utf-8")
 
     def write(self) -> List[str]:
-        """Writes the file, whole or not at all, and returns in words what couldn't be kept of it, as its owner.
+        """Writes the file, whole or not at all. Returns words for each thing that couldn't be kept, such as its owner.
 
-        Raises Unchangeable where it changed meanwhile or can't be written.
+        Raises Unchangeable if the file changed in the meantime or can't be written.
         """
         try:
             return replace_file(self.path, self.content(), self.data, self.within)
@@ -257,9 +269,9 @@ class Change:
 
 
 def header_name(name: str) -> str:
-    """Returns a name as git writes it in the headers of a diff: quoted where a character of it doesn't show itself.
+    """Returns a name as git writes it in the headers of a diff: in quotes if a character of it can't be printed.
 
-    Raises Unchangeable where the name has no bytes, as none of git's then has it.
+    Raises Unchangeable if the name can't be encoded, since then it can't be a name in git.
     """
     try:
         coded = [it.encode("utf-8", "surrogateescape") for it in name]
@@ -268,7 +280,7 @@ def header_name(name: str) -> str:
     written = [_header_letter(it, bytes_of) for it, bytes_of in zip(name, coded)]
     if "".join(written) != name:
         return '"' + "".join(written) + '"'
-    # (by the tab, names with blanks end where they end)
+    # (a tab marks the end of a name with blanks)
     return name + "\t" if " " in name else name
 
 
@@ -279,12 +291,15 @@ def _header_letter(letter: str, coded: bytes) -> str:
 
 
 def _key(entry: Entry) -> Tuple[object, ...]:
+    """What has to be the same in an entry of an unchanged file."""
     return entry.place, entry.call, entry.kind, entry.degree, entry.limit, entry.cause
 
 
 def judged(data: bytes, options: Sequence[str], seconds: float = SECONDS) -> List[Entry]:
-    """Returns the entries that relint gives for a source, of which it has a copy of its own. Raises Unchangeable where it
-    gives none, or takes more than so many seconds."""
+    """Returns the entries that relint gives for a source, which is written to a temporary file.
+
+    Raises Unchangeable if relint gives no report, or takes longer than `seconds`.
+    """
     with tempfile.TemporaryDirectory(prefix="relint-mend-") as folder:
         copy = Path(folder, "judged.py")
         try:
@@ -294,7 +309,7 @@ def judged(data: bytes, options: Sequence[str], seconds: float = SECONDS) -> Lis
         try:
             done = run(["check", "--format", "json", *options, "--", str(copy)], seconds=seconds)
         except TookLong as error:
-            raise Unchangeable(f"relint takes more than {seconds:g} s to judge it (--file-seconds)") from error
+            raise Unchangeable(f"relint takes more than {seconds:g} s to judge it (--seconds)") from error
     try:
         return list(read_report(done.out).entries)
     except ReportError:

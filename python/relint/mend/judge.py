@@ -1,8 +1,8 @@
-"""Which of three tiers a pattern reaches in another one's place.
+"""Decides which of three tiers a pattern has as a replacement for another one.
 
-(a) the same texts, spans and groups; (b) the same texts and spans, other groups; (c) only the same texts: advice, with a text
-on which the spans differ. That the texts are the same is proved. That the spans and the groups are is proved by relint-spans,
-or else checked.
+Tier a: the same texts match, with the same spans and groups. Tier b: the same texts and spans, but other groups. Tier c: only
+the same texts; this is advice, with a text on which the spans differ if one is known. It is proved already that the same texts
+match. That spans and groups are the same is proved by relint-spans or, if it has no answer, checked.
 """
 from __future__ import annotations
 
@@ -21,10 +21,10 @@ TIERS = ("a", "b", "c")
 
 @dataclass(frozen=True)
 class Judgement:
-    """A tier, with what was said for it: `text` shows what differs, where something does.
+    """A tier, and why it isn't a better one: `text` shows what differs, for a call that begins at `start`, if it is known.
 
-    `position` says that it holds for calls too that are given a position to begin at. `is_proved` says that the same spans, or
-    spans and groups, are proved; where they are only checked, `unproved` says why.
+    `position` says that the judgement also holds for calls that give a position to begin at. `is_proved` says that it is
+    proved that the spans, or spans and groups, are the same. If that is only checked, `unproved` says why.
     """
 
     tier: str
@@ -36,14 +36,14 @@ class Judgement:
     unproved: str = ""
 
     def known(self) -> str:
-        """Returns how it is known that spans, or spans and groups, are the same."""
+        """Returns words for how it is known that spans, or spans and groups, are the same."""
         if self.is_proved:
             return "proved"
         return f"checked: {self.unproved}" if self.unproved else "checked"
 
 
 def names_of(pattern: Pattern) -> Dict[str, int]:
-    """Returns the numbers of the groups that have a name."""
+    """Returns the numbers of the groups that have a name, by their names."""
     return {it.name: it.number for it in walk(pattern.tree) if isinstance(it, Group) and it.name}
 
 
@@ -52,19 +52,19 @@ def _part(places: Tuple[int, ...], number: int) -> Tuple[int, int]:
 
 
 def _words(text: str, part: Tuple[int, int]) -> str:
-    """Returns the part of the text that a group takes, quoted, or "nothing" if the group takes no part in the match."""
+    """The part of the text that a group matches, in quotes, or "nothing" if the group takes no part in the match."""
     return "nothing" if part[0] < 0 else repr(text[part[0]:part[1]])
 
 
 class Judge:
-    """Judges patterns in the place of one, for the calls that it is used in."""
+    """Judges replacements for one pattern, for the way in which it is called."""
 
     def __init__(self, original: Text, how: How) -> None:
         self.original = original
         self.how = how
 
     def judge(self, candidate: Text) -> Judgement:
-        """Returns the tier of a candidate of which it is proved already that it matches the same texts."""
+        """Returns the judgement on a replacement; it has to be proved already that it matches the same texts."""
         try:
             left, right = read_both([self.original, candidate], self.how.flags)
         except Unreadable as error:
@@ -81,7 +81,7 @@ class Judge:
         return replace(second, tier="b", why=why, text=first.text, start=first.start)
 
     def difference(self, pair: List[Pattern], judged: Judgement, same_names: bool) -> str:
-        """Returns in words which group differs, and how."""
+        """Returns words that say which group differs, and how."""
         if not same_names:
             return "groups differ: their numbers or names aren't the same"
         if judged.text is None:
@@ -95,21 +95,21 @@ class Judge:
         return "groups differ"
 
     def same(self, candidate: Text, sees: str) -> Judgement:
-        """Returns tier a where the calls see the same spans, or spans and groups; else c with what was found."""
+        """Returns tier a if code that sees spans, or spans and groups, sees the same; otherwise tier c with what differs."""
         how = replace(self.how, sees=sees)
         answer, position = same_spans(self.original, candidate, how), True
         if answer.word != SAME and how.position:
-            # (not the same from each place; but a call that is given no position begins at a place of its own)
+            # (they aren't the same from every place, but may be for calls that give no position)
             answer, position = same_unplaced(self.original, candidate, how), False
         if answer.word != SAME:
             return _apart(answer)
         return Judgement("a", position=position, is_proved=answer.is_proved, unproved=answer.unproved)
 
     def views(self, judged: Judgement) -> List[str]:
-        """Returns what is compared where both are tried with `re`: the calls of the uses, and one that is given a position."""
+        """Returns the calls to compare when both patterns are tried with `re`, for `trial.tried`."""
         found = [it for it in ("match", "fullmatch", "search") if it in self.how.methods]
         if judged.tier == "c":
-            # (that the texts are the same says nothing of a search that begins inside one, nor of a second match)
+            # (that the same texts match says nothing of a search that begins inside a text, nor of a second match)
             return found or ["search"]
         if self.how.methods & REPEATED:
             found.append("finditer")
@@ -117,7 +117,7 @@ class Judge:
 
 
 def _apart(answer: Answer) -> Judgement:
-    """Returns tier c for an answer other than "same": why, and the text that shows a difference, if there is one."""
+    """The judgement for an answer other than "same": tier c, the reason, and the text that shows a difference, if known."""
     why = f"spans not known ({answer.reason})" if answer.word == UNKNOWN else "spans differ"
     witness = answer.witness
     return Judgement("c", why, witness.text if witness else None, witness.start if witness else 0)

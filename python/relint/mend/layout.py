@@ -1,7 +1,7 @@
-"""Puts the layout of a pattern, with every comment, into a pattern that takes its place.
+"""Copies the layout of a pattern, with every comment, into a pattern that replaces it.
 
-Both are cut into tokens, and these are aligned. What lay between two tokens of the old one goes where they are in the new one;
-nothing of it is left out.
+Both patterns are cut into tokens, and the tokens are aligned. Layout that was between two tokens of the old pattern goes to
+their place in the new one. No layout is lost.
 """
 from __future__ import annotations
 
@@ -17,7 +17,7 @@ SCOPED_VERBOSE = re.compile(rf"\(\?(?=[{INLINE}-]*x)[{INLINE}]*(?:-[{TURNED_OFF}
 
 
 def tokens_of(pattern: str, verbose: bool) -> Tuple[List[str], List[str]]:
-    """Returns the tokens of a pattern, and what lies before each of them and behind the last one."""
+    """Returns the tokens of a pattern, and the layout before each of them and after the last one."""
     tokens: List[str] = []
     gaps = [""]
     at = 0
@@ -37,9 +37,9 @@ _FORMS = (ESCAPE, CLASS, OPENING, QUANTIFIER, re.compile(r"[\s\S]"))
 
 
 def with_layout(old: str, new: str, verbose: bool) -> str:
-    """Returns the new pattern with all that lay between the tokens of the old one; `verbose` is that both are under VERBOSE.
+    """Returns the new pattern with all layout of the old one; `verbose` says that both are read under VERBOSE.
 
-    A pattern that sets VERBOSE for a part of it is given back as it is.
+    Returns the new pattern unchanged if one of the two sets VERBOSE for only a part of itself.
     """
     if SCOPED_VERBOSE.search(old) or SCOPED_VERBOSE.search(new):
         return new
@@ -55,13 +55,13 @@ def with_layout(old: str, new: str, verbose: bool) -> str:
 
 
 def _ended(gap: str, goes_on: bool) -> str:
-    """The layout with an end of its last comment, where something is to follow."""
+    """The layout, with a line end added if its last comment would otherwise hide what follows."""
     is_open = goes_on and "#" in gap.rpartition("\n")[2] and not gap.rstrip().endswith(")")
     return gap + "\n" if is_open else gap
 
 
 def _places(before: List[str], after: List[str]) -> List[int]:
-    """Returns for each place between the old tokens the one between the new tokens to which its layout goes."""
+    """The place among the new tokens to which the layout at each place among the old tokens goes."""
     places = [len(after)] * (len(before) + 1)
     for _, start, end, low, high in SequenceMatcher(None, before, after, autojunk=False).get_opcodes():
         for at in range(start, end):
@@ -70,7 +70,7 @@ def _places(before: List[str], after: List[str]) -> List[int]:
 
 
 def _off_quantifier(before: List[str], after: List[str], at: int, to: int) -> int:
-    """The place behind a quantifier, where the layout didn't lie before one."""
+    """The place `to`, or the next one if layout would otherwise come before a quantifier where it didn't before."""
     was = at < len(before) and QUANTIFIER.fullmatch(before[at])
     now = to < len(after) and QUANTIFIER.fullmatch(after[to])
     return to + 1 if now and not was else to

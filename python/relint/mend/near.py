@@ -1,4 +1,4 @@
-"""What can be said where no cure came: the loop at fault, and the near miss with a text on which it differs."""
+"""The lines to show if there is no cure: the loop at fault, and the nearest proposal with texts on which it differs."""
 from __future__ import annotations
 
 from typing import List, Optional, Tuple
@@ -8,14 +8,14 @@ from .search import Miss, Outcome
 
 
 def nearest(outcome: Outcome) -> Optional[Miss]:
-    """Returns the proposal that came nearest, or None where none did."""
+    """Returns the miss that is nearest to the original, or None if there is none."""
     if not outcome.misses:
         return None
     return min(outcome.misses, key=_distance)
 
 
 def _distance(miss: Miss) -> Tuple[bool, int, int]:
-    """Returns what is less for a nearer miss: one that differs on one side alone, and on longer texts."""
+    """A key that is less for a nearer miss: one that differs only in one direction, and on longer texts."""
     texts = [it for it in (miss.left, miss.right) if it is not None]
     return len(texts) > 1, -min(len(it) for it in texts), len(miss.pattern)
 
@@ -25,7 +25,7 @@ def _shown(text: Text) -> str:
 
 
 def advice(outcome: Outcome) -> List[str]:
-    """Returns lines that say what is at fault, which proposal came near, and what a person could do."""
+    """Returns lines that say what is at fault, which pattern comes near, and what a person could do."""
     if outcome.before is not None and outcome.before.kind == "degree" and (outcome.before.degree or 0) < 2:
         return [f"{outcome.before.words()}    nothing to mend"]
     before = f"{outcome.before.words()}, " if outcome.before else ""
@@ -44,7 +44,7 @@ def advice(outcome: Outcome) -> List[str]:
 
 
 def notes(outcome: Outcome) -> List[str]:
-    """Returns what a person could do, whether or not there is a cure."""
+    """Returns lines that say what a person could do, whether or not there is a cure."""
     lines = [f"  in code: {outcome.in_code}"] if outcome.in_code else []
     if outcome.meant is not None:
         lines.append(f"  did you mean \\. for the dots between digits? {_plain(outcome.meant.pattern)}    "
@@ -57,7 +57,7 @@ def _plain(text: Text) -> str:
 
 
 def _other(name: str, miss: Miss) -> List[str]:
-    """The lines of a pattern that matches other texts."""
+    """The lines for a pattern that doesn't match the same texts."""
     lines = [f"  {name}: {_plain(miss.pattern)}    {miss.verdict.words()}, but other texts"]
     if miss.left is not None:
         lines.append(f"    only your pattern matches {_shown(miss.left)}")

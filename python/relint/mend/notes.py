@@ -1,6 +1,6 @@
-r"""What a person could do where no rule helps, or where the pattern may not be what was meant.
+r"""Suggests what a person could do if no rule helps, or if the pattern may not be what was meant.
 
-Nothing here keeps the matched texts: a relaxed pattern comes with texts on which it differs, and the rest are words.
+The patterns suggested here don't match the same texts as the original. The caller shows texts on which they differ.
 """
 from __future__ import annotations
 
@@ -14,7 +14,7 @@ from .write import Unwritable, plain
 
 
 def first_mark(node: Node) -> int:
-    """Returns the mask of the one character that every match begins with, or 0 where there is no such one."""
+    """Returns the mask of the first character of every match, or 0 if the pattern doesn't begin with a character or class."""
     found = node
     while isinstance(found, (Concat, Group)):
         if isinstance(found, Group):
@@ -27,9 +27,10 @@ def first_mark(node: Node) -> int:
 
 
 def relaxed(pattern: Pattern) -> Optional[str]:
-    """Returns the pattern with no run that takes the sign with which it begins, as `[^<>]` in a tag; None where there is none.
+    """Returns the pattern with the sign that it begins with taken out of its runs, as in `<[^<>]*>` for a tag.
 
-    A letter, a digit or a blank is no such sign: those come inside of what they begin.
+    Returns None if it begins with no single sign, or if no run has it. Letters, digits and blanks are no such signs, since
+    they may well come again.
     """
     mark = first_mark(pattern.tree)
     usual = pattern.alphabet.category("w") | pattern.alphabet.category("s")
@@ -43,6 +44,7 @@ def relaxed(pattern: Pattern) -> Optional[str]:
 
 
 def _without(node: Node, mark: int) -> Node:
+    """The node with the mark taken out of each run without a bound that has it and other characters."""
     if isinstance(node, Repeat) and isinstance(node.body, Chars):
         mask = node.body.mask
         fits = node.endless and mask & mark and mask & ~mark
@@ -53,7 +55,7 @@ def _without(node: Node, mark: int) -> Node:
 
 
 def with_dots(pattern: Pattern) -> Optional[str]:
-    r"""Returns the pattern with `\.` for each dot behind digits that has digits or nothing behind it; None where none has."""
+    r"""Returns the pattern with `\.` for each dot after digits that has digits or nothing after it; None if no dot has."""
     digits = pattern.alphabet.category("d")
     places: List[int] = []
     for node in walk(pattern.tree):
@@ -69,12 +71,16 @@ def with_dots(pattern: Pattern) -> Optional[str]:
 
 
 def _is_digits(node: Node, digits: int) -> bool:
+    """Whether a node is a run of only digits."""
     run = run_of(node)
     return run is not None and run.mask != 0 and run.mask & ~digits == 0
 
 
 def in_code(pattern: Pattern) -> Optional[str]:
-    """Returns what to do in code for two runs of shared characters with something between; None for other shapes."""
+    """Returns what to do in code for a pattern with two runs that share characters, with something before and between them.
+
+    Returns None for other patterns.
+    """
     found = _two_runs(pattern.tree)
     if found is None:
         return None
@@ -90,13 +96,13 @@ def in_code(pattern: Pattern) -> Optional[str]:
 
 
 def _end_mark(run: str, tail: str) -> str:
-    """The character that both a run leaves out and the pattern ends with, as that of a tag."""
+    """The character that a run leaves out and that ends the pattern, as `>` ends a tag; "" if there is none."""
     found = re.fullmatch(r"\[\^([^\\\]\-^])\][*+]\??", run)
     return found[1] if found and tail == found[1] else ""
 
 
 def _two_runs(tree: Node) -> Optional[Tuple[Tuple[int, int], Tuple[int, int]]]:
-    """The spans of the first two runs of one row that share characters."""
+    """The spans of the first two successive runs of the top level that share characters; None if there are none."""
     runs = list(_runs(tree))
     for (mask, span), (other, behind) in zip(runs, runs[1:]):
         if mask & other:
@@ -105,6 +111,7 @@ def _two_runs(tree: Node) -> Optional[Tuple[Tuple[int, int], Tuple[int, int]]]:
 
 
 def _runs(tree: Node) -> Iterator[Tuple[int, Tuple[int, int]]]:
+    """Yields the mask and the span of each run without a bound at the top level."""
     for it in tree.items if isinstance(tree, Concat) else ():
         run = run_of(it)
         if run is not None and run.endless and it.span is not None:

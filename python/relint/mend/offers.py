@@ -1,7 +1,7 @@
-"""What a tool may offer in a pattern's place, and whether that is a fix or only advice.
+"""Decides, for all tools, what may be offered as a replacement for a pattern, and whether that is a fix or only advice.
 
-This is the one place that decides it, for every tool. A *fix* changes nothing that the code sees, as far as its calls are
-known: relint proves that the same texts match, and a check compares spans and groups. All else is *advice*, with what differs.
+A *fix* changes nothing that the code sees, as far as its calls are known: relint proves that the same texts match, and spans
+and groups are compared. Everything else is *advice*, which says what differs.
 """
 from __future__ import annotations
 
@@ -34,10 +34,10 @@ PYTHON_2 = re.compile(
 
 @dataclass(frozen=True)
 class Offer:
-    """A pattern to put in another one's place. `kind` is fix or advice; `literal` is how the source would have it.
+    """A replacement for a pattern. `kind` is fix or advice; `literal` is the text of its literals in the source.
 
-    `words` say what is proved and checked, and what differs; `changes` what was changed, in a sentence or two. `tier` is a
-    if the calls see the same spans and groups.
+    `words` say what is proved and checked, and what differs. `changes` says what was changed, in a sentence or two. `tier` is
+    "a" if the calls see the same spans and groups.
     """
 
     kind: str
@@ -49,12 +49,16 @@ class Offer:
     tier: str = ""
 
     def shown(self) -> str:
-        """Returns the literal where it shows itself in a line, else one of the same pattern that does."""
+        """Returns the literal if it can be printed as it is in one line, otherwise another literal of the same pattern."""
         return self.literal if visible(self.literal) == self.literal else quoted(self.pattern)
 
 
-def kind_of(how: How, judged: Judgement) -> str:
-    """Returns whether a pattern is a fix for calls of this kind, by what was found of its spans and groups."""
+def fix_or_advice(how: How, judged: Judgement) -> str:
+    """Returns FIX if code that calls the pattern in this way can't notice the replacement, otherwise ADVICE.
+
+    It is advice if the code reads the pattern itself, or may give a position and the judgement doesn't cover that. Otherwise
+    it is a fix in tier a, in tier b if the code sees no groups, and in every tier under `how.only_truth()`.
+    """
     if how.is_read or how.position and not judged.position:
         return ADVICE
     same = judged.tier == "a" or judged.tier == "b" and how.sees != GROUPS or how.only_truth()
@@ -62,17 +66,20 @@ def kind_of(how: How, judged: Judgement) -> str:
 
 
 def reason_of(how: How, judged: Judgement) -> str:
-    """Returns why a pattern is a fix or advice where its tier doesn't say so; "" where it does."""
+    """Returns why a pattern is a fix or advice, or "" if its tier explains that already."""
     if how.is_read:
         return "your code reads the pattern's text, its flags or its groups"
-    if kind_of(how, judged) == ADVICE or judged.tier == "a":
+    if fix_or_advice(how, judged) == ADVICE or judged.tier == "a":
         return ""
     is_spans = judged.tier == "b" and how.sees == SPANS
     return "your code asks for no group" if is_spans else "your code asks only whether it matches"
 
 
 def literal_of(source: Source, site: Site, pattern: Text) -> str:
-    """Returns the literals of a site with another pattern in them: prefix, quotes and layout stay."""
+    """Returns the source of a site's literals with another pattern in them; prefixes, quotes and layout stay.
+
+    If the literals can't be changed in place, returns one new literal of the pattern.
+    """
     first, last = site.literals[0].start, site.literals[-1].end
     try:
         changed = edits(site, pattern)
@@ -82,13 +89,16 @@ def literal_of(source: Source, site: Site, pattern: Text) -> str:
 
 
 def offered(source: Source, site: Site, how: How, cures: Sequence[Cure]) -> List[Offer]:
-    """Returns the cures of a pattern as offers, fixes first, and of each kind the best class first."""
+    """Returns the cures of a pattern as offers: fixes before advice, and within each kind the best class first."""
     found = [offer_of(source, site, how, it) for it in cures]
     return sorted(found, key=lambda it: (it.kind != FIX, order(it.verdict)))
 
 
 def offers_for(found: Finding, mend: bool) -> List[Offer]:
-    """Returns what is offered for a finding: relint's suggestion, and with `mend` the cures of a search; fixes first."""
+    """Returns the offers for a finding, fixes first: relint's suggestion and, with `mend`, the cures that a search finds.
+
+    Returns none if the source, the pattern or its flags aren't known.
+    """
     if found.source is None or found.site is None or found.site.flags is None:
         return []
     flags = found.site.flags & ~int(re.DEBUG)
@@ -103,9 +113,10 @@ def offers_for(found: Finding, mend: bool) -> List[Offer]:
 
 
 def suggested(asker: Asker, source: Source, site: Site, how: How, mode: str, entry: Entry) -> Optional[Offer]:
-    """Returns relint's own suggestion for an entry as an offer, or None where it has none that holds for the calls.
+    """Returns relint's own suggestion for an entry as an offer, or None if it has none or none that holds for the calls.
 
-    relint proves that it matches the same texts in the mode of the entry; this is asked anew for the modes of all calls.
+    relint proves that the suggestion matches the same texts in the mode of the entry. Here relint is asked again whether it
+    does in the modes of all calls.
     """
     if entry.suggest is None or isinstance(entry.suggest, bytes) != isinstance(site.value, bytes):
         return None
@@ -118,7 +129,7 @@ def suggested(asker: Asker, source: Source, site: Site, how: How, mode: str, ent
 
 
 def _laid_out(old: Text, new: Text, flags: int) -> Text:
-    """The new pattern with the comments of the old one, where both are text."""
+    """The new pattern with the layout of the old one, or unchanged if one of them is bytes or the old one can't be read."""
     if isinstance(old, bytes) or isinstance(new, bytes):
         return new
     try:
@@ -128,8 +139,11 @@ def _laid_out(old: Text, new: Text, flags: int) -> Text:
 
 
 def offer_of(source: Source, site: Site, how: How, cure: Cure) -> Offer:
-    """Returns a cure as an offer for the calls of a pattern in its source."""
-    kind, reasons = kind_of(how, cure.judgement), [cure.words(), reason_of(how, cure.judgement)]
+    """Returns a cure as an offer for the calls of a pattern.
+
+    It is only advice if it needs Python 3 and the source still provides for Python 2.
+    """
+    kind, reasons = fix_or_advice(how, cure.judgement), [cure.words(), reason_of(how, cure.judgement)]
     if needs_python_3(site.value, cure.pattern) and is_for_python_2(source.text):
         kind, reasons = ADVICE, [*reasons, "it needs Python 3.6 or later, and the file still provides for Python 2"]
     words = "; ".join(it for it in reasons if it)
@@ -138,11 +152,11 @@ def offer_of(source: Source, site: Site, how: How, cure: Cure) -> Offer:
 
 
 def needs_python_3(old: Text, new: Text) -> bool:
-    """Returns whether a pattern sets flags for a part of it, as `(?m:^)`, where the old one doesn't."""
+    """Returns whether the new pattern sets flags for only a part of itself, as `(?m:^)` does, and the old one doesn't."""
     old, new = (it.decode("latin-1") if isinstance(it, bytes) else it for it in (old, new))
     return bool(SCOPED.search(new)) and not SCOPED.search(old)
 
 
 def is_for_python_2(source: str) -> bool:
-    """Returns whether a source imports what only code for Python 2 needs."""
+    """Returns whether a source imports something that only code for Python 2 needs."""
     return bool(PYTHON_2.search(source))

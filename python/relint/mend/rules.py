@@ -1,7 +1,8 @@
-r"""Rules of thumb that propose a pattern in another one's place.
+r"""Rules of thumb that propose replacements for a pattern.
 
-No rule is trusted: what it proposes counts only after relint and the check of spans have judged it. A rule takes a node and
-the alphabet of its pattern, and yields nodes that might stand in the node's place. Each has an example, which its test tries.
+No rule is trusted: a proposal counts only after relint and the comparison of spans have judged it. A rule takes a node and the
+alphabet of its pattern, and yields nodes that might replace it. Each rule has an example, which a test tries. The docstring of
+a rule says what it applies to and, after the colon, what it proposes instead.
 """
 from __future__ import annotations
 
@@ -20,9 +21,9 @@ Rewrite = Callable[[Node, Alphabet], Iterator[Node]]
 
 @dataclass(frozen=True)
 class Rule:
-    """A rule by name; `cost` orders the proposals. `example` is a pattern, and one that the rule proposes for it.
+    """A rule with its name. Proposals of lower `cost` come first. `example` is a pattern, and what the rule proposes for it.
 
-    `says` tells in a sentence what the rule changes, and why a match isn't lost or won by it where the rule fits.
+    `says` is a sentence for users: what the rule changes, and why this neither loses nor adds a match where the rule fits.
     """
 
     name: str
@@ -34,7 +35,7 @@ class Rule:
 
 @dataclass(frozen=True)
 class Run:
-    """A repeat of one class of characters."""
+    """A repeated class of characters."""
 
     least: int
     most: int
@@ -43,11 +44,11 @@ class Run:
 
     @property
     def endless(self) -> bool:
-        """Whether the count has no bound."""
+        """Whether the number of repetitions has no bound."""
         return self.most == NO_BOUND
 
 
-# What rules are made of
+# Helpers of the rules
 
 
 def core(node: Node) -> Node:
@@ -58,14 +59,14 @@ def core(node: Node) -> Node:
 
 
 def recored(node: Node, new: Node) -> Node:
-    """Returns the node with another core, the groups around it kept."""
+    """Returns the node with its core replaced; the groups around it are kept."""
     if isinstance(node, Group):
         return Group(node.number, node.name, recored(node.body, new))
     return new
 
 
 def run_of(node: Node) -> Optional[Run]:
-    """Returns the run that the node is, perhaps in groups, or None; one character is a run of one."""
+    """Returns the run that the node is, perhaps inside groups, or None if it isn't one. One character is a run of one."""
     found = core(node)
     if isinstance(found, Chars):
         return Run(1, 1, found.mask, True)
@@ -75,12 +76,12 @@ def run_of(node: Node) -> Optional[Run]:
 
 
 def chars(mask: int) -> Chars:
-    """Returns one character of the mask."""
+    """Returns a node for one character that is in the mask."""
     return Chars(mask)
 
 
 def with_run(node: Node, least: int, most: int, mask: int) -> Node:
-    """Returns a run with other bounds and another class, the groups around it kept."""
+    """Returns a run with other bounds and another class; the groups around it are kept."""
     found = core(node)
     greedy = found.greedy if isinstance(found, Repeat) else True
     leaf = found.body if isinstance(found, Repeat) else found
@@ -102,7 +103,7 @@ def stripped(node: Node) -> Node:
 
 
 def dead_groups(node: Node) -> List[Node]:
-    """Returns groups that never match, to keep the numbers and names of the node's groups."""
+    """Returns groups that never match, with the numbers and names of the node's groups."""
     return [optional(Group(number, name, chars(0))) for number, name in node.facts.groups]
 
 
@@ -121,7 +122,7 @@ def edge(node: Node, at: int) -> Optional[Repeat]:
 
 
 def with_edge(node: Node, at: int, new: Node) -> Node:
-    """Returns the node with another node in the place of the run that it begins or ends with."""
+    """Returns the node with the run that it begins (`at` 0) or ends (`at` -1) with replaced."""
     if isinstance(node, Group):
         return Group(node.number, node.name, with_edge(node.body, at, new))
     if isinstance(node, Concat) and node.items:
@@ -134,7 +135,7 @@ def with_edge(node: Node, at: int, new: Node) -> Node:
 
 
 def close(node: Node, alphabet: Alphabet) -> Iterator[Node]:
-    """A loop that what is in it repeats already: one round is enough."""
+    """A loop whose body repeats already: one round."""
     if isinstance(node, Repeat) and node.endless and not isinstance(node.body, Chars):
         yield repeat(min(node.least, 1), 1, node.greedy, node.body)
         if node.least > 1:
@@ -142,7 +143,7 @@ def close(node: Node, alphabet: Alphabet) -> Iterator[Node]:
 
 
 def nest(node: Node, alphabet: Alphabet) -> Iterator[Node]:
-    """A loop of a loop: one of the two is enough."""
+    """A loop directly inside a loop: one of the two."""
     if not isinstance(node, Repeat) or not node.endless:
         return
     inner = core(node.body)
@@ -156,7 +157,7 @@ def nest(node: Node, alphabet: Alphabet) -> Iterator[Node]:
 
 
 def nest_choice(node: Node, alphabet: Alphabet) -> Iterator[Node]:
-    """A loop over branches that are loops themselves: one piece at a time."""
+    """A loop over branches that are loops themselves: a loop over branches without these inner loops."""
     if not isinstance(node, Repeat) or not node.endless:
         return
     inner = core(node.body)
@@ -172,7 +173,7 @@ def nest_choice(node: Node, alphabet: Alphabet) -> Iterator[Node]:
 
 
 def shuffle(node: Node, alphabet: Alphabet) -> Iterator[Node]:
-    """A loop over parts that may all be missing: any of them at a time."""
+    """A loop over parts that may all be missing: a loop over a choice of the parts."""
     if not isinstance(node, Repeat) or not node.endless:
         return
     inner = core(node.body)
@@ -186,7 +187,7 @@ def shuffle(node: Node, alphabet: Alphabet) -> Iterator[Node]:
 
 
 def hoist(node: Node, alphabet: Alphabet) -> Iterator[Node]:
-    """A part that may be missing at an end of a loop's body: once beside the loop instead of in every round."""
+    """A loop whose body begins or ends with a part that may be missing: that part only once, beside the loop."""
     if not isinstance(node, Repeat) or not node.endless:
         return
     parts = items_of(core(node.body))
@@ -203,7 +204,7 @@ def hoist(node: Node, alphabet: Alphabet) -> Iterator[Node]:
 
 
 def unroll(node: Node, alphabet: Alphabet) -> Iterator[Node]:
-    """A loop over a part and one that may be missing: the second part between two of the first."""
+    """A loop over an item and an optional separator: the separator only between items, and optional at the end."""
     if not isinstance(node, Repeat) or not node.endless or node.least > 1 or node.facts.groups:
         return
     parts = items_of(node.body)
@@ -217,7 +218,7 @@ def unroll(node: Node, alphabet: Alphabet) -> Iterator[Node]:
 
 
 def one_piece(node: Node, alphabet: Alphabet) -> Iterator[Node]:
-    """A loop inside a loop's body: one piece of it in each round."""
+    """A loop inside the body of a loop: at most one round of the inner loop in each round of the outer one."""
     if not isinstance(node, Repeat) or not node.endless:
         return
     inner = core(node.body)
@@ -232,13 +233,13 @@ def one_piece(node: Node, alphabet: Alphabet) -> Iterator[Node]:
 
 
 def fill(node: Node, alphabet: Alphabet) -> Iterator[Node]:
-    """A part that may be missing as a whole: what is in it needn't be able to be missing too."""
+    """A run of characters that may be empty: the same run with at least one character."""
     if isinstance(node, Repeat) and node.least == 0 and isinstance(node.body, Chars):
         yield repeat(1, node.most, node.greedy, node.body)
 
 
 def rotate(node: Node, alphabet: Alphabet) -> Iterator[Node]:
-    """A loop whose body begins and ends with runs of one class: the seam between two rounds as one run."""
+    """A loop whose body begins and ends with runs of the same class: the two runs between rounds joined to one."""
     if not isinstance(node, Repeat) or not node.endless or node.least > 1:
         return
     parts = [stripped(it) for it in items_of(core(node.body))]
@@ -253,7 +254,7 @@ def rotate(node: Node, alphabet: Alphabet) -> Iterator[Node]:
     if not node.facts.groups:
         yield optional(whole, node.greedy) if node.least == 0 else whole
         return
-    # (the groups hold what the last round took, so it stays a round of its own)
+    # (the groups hold what the last round matched, so the last round stays as it is)
     rounds = concat([optional(whole), node.body])
     yield optional(rounds, node.greedy) if node.least == 0 else rounds
     rest = concat([optional(whole, node.greedy) if node.least == 0 else whole, *dead_groups(node)])
@@ -261,14 +262,14 @@ def rotate(node: Node, alphabet: Alphabet) -> Iterator[Node]:
 
 
 def last_round(node: Node, alphabet: Alphabet) -> Iterator[Node]:
-    """A loop with groups in it: rounds without groups, and then the last one with them."""
+    """A loop with groups in it: rounds without groups, then the last round with them."""
     if not isinstance(node, Repeat) or not node.endless or node.least > 1 or not node.facts.groups:
         return
     bodies = [stripped(node.body)]
     parts = items_of(bodies[0])
     for at, it in enumerate(parts):
         if len(parts) > 1 and isinstance(it, Repeat) and it.least == 0:
-            # (what may be missing in the last round parts the rounds before it)
+            # (a part that may be missing in the last round may be needed between the rounds before it)
             bodies.append(_put(bodies[0], at, at + 1, [repeat(1, it.most, it.greedy, it.body)]))
     for body in bodies:
         rounds = concat([star(body, node.greedy), node.body])
@@ -276,7 +277,7 @@ def last_round(node: Node, alphabet: Alphabet) -> Iterator[Node]:
 
 
 def fallback(node: Node, alphabet: Alphabet) -> Iterator[Node]:
-    r"""A loop over escaped characters and others, where the escaping one may stand alone: it does so at the end only."""
+    r"""A loop over escaped and other characters, in which the escaping one may be alone: it may be alone only at the end."""
     if not isinstance(node, Repeat) or not node.endless or not node.greedy:
         return
     inner = core(node.body)
@@ -290,7 +291,7 @@ def fallback(node: Node, alphabet: Alphabet) -> Iterator[Node]:
         body = choice([concat([head, chars(second)]), *rest, chars(alone)])
         if alone:
             yield concat([star(recored(node.body, body)), tail])
-        # (or it may stand alone anywhere, and takes with it what nothing else takes)
+        # (or it may be alone anywhere, and takes along the characters that no other branch matches)
         odd = pairs & ~others
         loose = choice([concat([chars(sign), optional(chars(odd))]), *rest, *([chars(alone)] if alone else [])])
         if odd and alone:
@@ -298,7 +299,7 @@ def fallback(node: Node, alphabet: Alphabet) -> Iterator[Node]:
 
 
 def _escapes(node: Choice) -> Iterator[Tuple[int, int, int, List[Node]]]:
-    """Yields the escaping character, what is escaped, the class of the others, and the branches besides."""
+    """Yields the mask of an escaping character, of what it escapes, of the other characters, and the remaining branches."""
     heads = [it.items[0] for it in node.branches if isinstance(it, Concat) and it.items]
     firsts = {it.mask for it in heads if isinstance(it, Chars)}
     others = [it for it in node.branches if isinstance(it, Chars)]
@@ -319,7 +320,7 @@ def _escapes(node: Choice) -> Iterator[Tuple[int, int, int, List[Node]]]:
 
 
 def disjoint(node: Node, alphabet: Alphabet) -> Iterator[Node]:
-    """A class in a choice without the characters that another branch begins with."""
+    """A class in a choice: the class without the characters that another branch begins with."""
     if not isinstance(node, Choice):
         return
     for at, it in enumerate(node.branches):
@@ -333,7 +334,7 @@ def disjoint(node: Node, alphabet: Alphabet) -> Iterator[Node]:
 
 
 def prefix(node: Node, alphabet: Alphabet) -> Iterator[Node]:
-    """A branch that another one begins with: the rest of that one as a part that may be missing."""
+    """A branch that is the beginning of another one: one branch, in which the rest of the longer one is optional."""
     if not isinstance(node, Choice):
         return
     for short in node.branches:
@@ -348,7 +349,7 @@ def prefix(node: Node, alphabet: Alphabet) -> Iterator[Node]:
 
 
 def drop_branch(node: Node, alphabet: Alphabet) -> Iterator[Node]:
-    """A loop over branches one of which the others make up together: without it."""
+    """A loop over branches: the loop without one of the branches, which the others may match together."""
     if not isinstance(node, Repeat) or not node.endless:
         return
     inner = core(node.body)
@@ -364,6 +365,7 @@ def drop_branch(node: Node, alphabet: Alphabet) -> Iterator[Node]:
 
 
 def _pairs(node: Node) -> Iterator[Tuple[int, Node, Node]]:
+    """Yields each two neighbours in a concatenation, with the position of the first."""
     if isinstance(node, Concat):
         for at in range(len(node.items) - 1):
             yield at, node.items[at], node.items[at + 1]
@@ -376,7 +378,7 @@ def _put(node: Node, start: int, end: int, new: List[Node]) -> Node:
 
 
 def absorb(node: Node, alphabet: Alphabet) -> Iterator[Node]:
-    """Two runs in a row where one class holds the other: the wide one takes what the narrow one repeats."""
+    """Two neighbouring runs, one with a class that holds the other's: the narrow run no longer repeats."""
     for at, left, right in _pairs(node):
         one, other = run_of(left), run_of(right)
         if one is None or other is None or not one.endless or not other.endless:
@@ -390,7 +392,7 @@ def absorb(node: Node, alphabet: Alphabet) -> Iterator[Node]:
 
 
 def cede(node: Node, alphabet: Alphabet) -> Iterator[Node]:
-    """A run behind a greedy one: it begins with what the first couldn't take, or is one character."""
+    """A run after a greedy run: it begins with a character that the first can't match, or is a single character."""
     for at, left, right in _pairs(node):
         last, first = edge(left, -1), edge(right, 0)
         if last is None or first is None or not last.endless or not last.greedy:
@@ -401,6 +403,7 @@ def cede(node: Node, alphabet: Alphabet) -> Iterator[Node]:
 
 
 def _ceded(found: Repeat, taken: int) -> Optional[Node]:
+    """What `cede` puts in place of a run after a greedy run of the mask `taken`; None if the rule doesn't apply."""
     mask = found.body.facts.mask
     if not found.endless or found.least > 1 or not mask & taken:
         return None
@@ -412,7 +415,7 @@ def _ceded(found: Repeat, taken: int) -> Optional[Node]:
 
 
 def cede_lazy(node: Node, alphabet: Alphabet) -> Iterator[Node]:
-    """A lazy run before another one: it doesn't end with what the second can take."""
+    """A lazy run before another run: it doesn't end with a character that the second can match."""
     for at, left, right in _pairs(node):
         last, first = edge(left, -1), edge(right, 0)
         if last is None or first is None or last.greedy or not last.endless or last.least > 1 or not first.endless:
@@ -422,13 +425,14 @@ def cede_lazy(node: Node, alphabet: Alphabet) -> Iterator[Node]:
 
 
 def _ended(found: Repeat, taken: int) -> Node:
+    """What `cede_lazy` puts in place of a lazy run before a run of the mask `taken`."""
     own = found.body.facts.mask & ~taken
     ended = optional(concat([star(found.body, False), chars(own)]), False) if own else EMPTY
     return ended if found.least == 0 else concat([found.body, ended])
 
 
 def split_runs(node: Node, alphabet: Alphabet) -> Iterator[Node]:
-    """Two runs in a row that share characters: what one can take alone decides which it is."""
+    """Two neighbouring runs that share characters: one of them ends or begins with a character that only it can match."""
     for at, left, right in _pairs(node):
         one, other = run_of(left), run_of(right)
         if one is None or other is None or not one.endless or not other.endless or not one.mask & other.mask:
@@ -443,7 +447,7 @@ def split_runs(node: Node, alphabet: Alphabet) -> Iterator[Node]:
 
 
 def exclude(node: Node, alphabet: Alphabet) -> Iterator[Node]:
-    """Neighbours that share characters: one of them without those of the other."""
+    """Two neighbouring runs that share characters: one of them without the characters of the other."""
     for at, left, right in _pairs(node):
         one, other = run_of(left), run_of(right)
         if one is None or other is None or not one.mask & other.mask:
@@ -455,7 +459,7 @@ def exclude(node: Node, alphabet: Alphabet) -> Iterator[Node]:
 
 
 def exclude_next(node: Node, alphabet: Alphabet) -> Iterator[Node]:
-    """A run before a part that begins with some of its characters: the run without these."""
+    """A run before a part that may begin with some of its characters: the run without these."""
     for at, left, right in _pairs(node):
         last, first = edge(left, -1), right.facts.first
         if last is None or not last.endless or run_of(right) is not None:
@@ -467,7 +471,7 @@ def exclude_next(node: Node, alphabet: Alphabet) -> Iterator[Node]:
 
 
 def after_last(node: Node, alphabet: Alphabet) -> Iterator[Node]:
-    """A greedy run, one of its characters, another run: that character was the last one, so the second run is without it."""
+    """A greedy run, one of its characters, and another run: the second run without that character."""
     if not isinstance(node, Concat):
         return
     for at in range(len(node.items) - 2):
@@ -485,7 +489,7 @@ def after_last(node: Node, alphabet: Alphabet) -> Iterator[Node]:
 
 
 def option_pairs(node: Node, alphabet: Alphabet) -> Iterator[Node]:
-    """Blanks, a part that may be missing, blanks: the second blanks go with the part. All along a row at once."""
+    """Blanks, an optional part, blanks: the second blanks inside the part. Changes all such parts at once, at least two."""
     if not isinstance(node, Concat):
         return
     items = list(node.items)
@@ -505,7 +509,7 @@ def option_pairs(node: Node, alphabet: Alphabet) -> Iterator[Node]:
 
 
 def _blanks(node: Optional[Node]) -> Optional[Run]:
-    """Returns the run that the part ends with, also where the part is an option that ends so."""
+    """Returns the run that a part is, or that an optional part ends with; None if there is none."""
     if node is None:
         return None
     run = run_of(node)
@@ -515,6 +519,7 @@ def _blanks(node: Optional[Node]) -> Optional[Run]:
 
 
 def _option_pair(before: Optional[Node], pair: List[Node]) -> Optional[Node]:
+    """What `option_pairs` puts in place of an optional part and blanks after `before`; None if the rule doesn't apply."""
     blanks = _blanks(before)
     if blanks is None or len(pair) < 2 or not blanks.endless or not isinstance(pair[0], Repeat):
         return None
@@ -527,7 +532,7 @@ def _option_pair(before: Optional[Node], pair: List[Node]) -> Optional[Node]:
 
 
 def option_pair(node: Node, alphabet: Alphabet) -> Iterator[Node]:
-    """Blanks, a part that may be missing, blanks: one of the blanks goes with the part."""
+    """Blanks, an optional part, blanks: the blanks on one side inside the part."""
     if not isinstance(node, Concat):
         return
     for at in range(len(node.items) - 2):
@@ -543,7 +548,7 @@ def option_pair(node: Node, alphabet: Alphabet) -> Iterator[Node]:
 
 
 def with_blanks(node: Node, alphabet: Alphabet) -> Iterator[Node]:
-    """Blanks before a part that may be missing: they go with the part."""
+    """Blanks before an optional part: the blanks inside the part."""
     for at, left, right in _pairs(node):
         run = run_of(left)
         if run is None or run.least != 0 or left.facts.groups or not isinstance(right, Repeat) or right.least != 0:
@@ -556,7 +561,7 @@ def with_blanks(node: Node, alphabet: Alphabet) -> Iterator[Node]:
 
 
 def greedy(node: Node, alphabet: Alphabet) -> Iterator[Node]:
-    """A lazy repeat made greedy."""
+    """A lazy repeat: the same repeat, greedy."""
     if isinstance(node, Repeat) and not node.greedy:
         yield repeat(node.least, node.most, True, node.body)
 
@@ -616,7 +621,10 @@ RULES: Tuple[Rule, ...] = (
 
 
 def line_anchor(tree: Node, alphabet: Alphabet) -> Iterator[Node]:
-    """A search for a pattern that begins with what runs to a line's end: it needs to begin at a line's start alone."""
+    """A pattern that begins with a run of all characters but newlines, of all characters, or of word characters.
+
+    Proposes a search that begins only at the start of a line, of the text, or at a word boundary.
+    """
     mask = _lead(tree)
     if mask == alphabet.full & ~alphabet.newline:
         yield concat([Guard("line-start", False, "(?m:^)"), tree])
@@ -627,6 +635,7 @@ def line_anchor(tree: Node, alphabet: Alphabet) -> Iterator[Node]:
 
 
 def _lead(node: Node) -> Optional[int]:
+    """The mask of the run without a bound that the node begins with, or None if it begins otherwise."""
     if isinstance(node, Concat) and node.items:
         return _lead(node.items[0])
     if isinstance(node, Group):
@@ -641,7 +650,7 @@ LINE_ANCHOR = Rule("line-anchor", 0.5, line_anchor, (r".*x", r"(?m:^).*x"),
 
 
 def places(node: Node, change: Callable[[Node], Iterator[Node]]) -> Iterator[Node]:
-    """Yields the whole tree with what `change` gives at each of its nodes, the outer ones first."""
+    """Yields the whole tree with one of its nodes replaced by what `change` yields for it, outer nodes first."""
     yield from change(node)
     for at, it in enumerate(children(node)):
         for new in places(it, change):

@@ -1,8 +1,7 @@
-"""Whether code sees the same spans and groups with one pattern in the place of another.
+"""Finds out whether code sees the same spans and groups if one pattern is replaced by another.
 
-`same_spans` is the one question of the tools about spans: whoever asks it says how the code calls the pattern. The program
-relint-spans is asked first, and what it says is proved. What it can't say is left to the check of spans.py, which is tested
-and not proved.
+All tools ask this by `same_spans`, and say how the code calls the pattern. The program relint-spans is asked first, and its
+answers are proved. If it has no answer, the check in spans.py is used, which is tested but not proved.
 """
 from __future__ import annotations
 
@@ -23,9 +22,10 @@ METHODS = frozenset(MODES)
 
 @dataclass(frozen=True)
 class How:
-    """How code calls a pattern: the methods, the flags of the call, and whether a position to begin or end at may be given.
+    """How code calls a pattern: by which methods, with which flags, and whether it may give a position to begin or end at.
 
-    `sees` is what it sees of the answers: "truth", "spans" or "groups". `is_read` says that it reads the pattern's text too.
+    `sees` is what the code sees of the results: "truth", "spans" or "groups". `is_read` says that the code also reads the
+    pattern itself.
     """
 
     methods: FrozenSet[str]
@@ -35,17 +35,17 @@ class How:
     is_read: bool = False
 
     def modes(self) -> Tuple[str, ...]:
-        """Returns the modes of the methods, in order."""
+        """Returns the modes of the methods: fullmatch, match, search, in this order."""
         return tuple(it for it in ("fullmatch", "match", "search") if any(MODES[one] == it for one in self.methods))
 
     def only_truth(self) -> bool:
-        """Returns whether nothing is seen but whether the whole text has a match."""
+        """Returns whether the code sees only whether there is a match, and never gives a position."""
         return self.sees == TRUTH and not self.position and not self.methods & REPEATED
 
 
 @dataclass(frozen=True)
 class Witness:
-    """A text on which the two differ, where a call begins at `start`."""
+    """A text on which the two patterns differ if a call begins at `start`."""
 
     text: str
     start: int = 0
@@ -53,9 +53,9 @@ class Witness:
 
 @dataclass(frozen=True)
 class Answer:
-    """`word` is same, different or unknown; `reason` says why; a difference has a witness.
+    """An answer: `word` is same, different or unknown, and `reason` says why. A difference has a witness.
 
-    `is_proved` says that relint-spans gave the answer; where it gave none, `unproved` says why.
+    `is_proved` says that relint-spans gave the answer. If it gave none, `unproved` says why.
     """
 
     word: str
@@ -66,7 +66,7 @@ class Answer:
 
 
 def how_of(calls: Iterable[str], flags: int = 0) -> How:
-    """Returns how a pattern is called by the names of its calls; `compile` hides the call, so all of them count."""
+    """Returns how a pattern is called, from the names of its calls; for `compile`, any method may be called."""
     given = frozenset(calls)
     if "compile" in given:
         return How(METHODS, flags, True)
@@ -74,31 +74,31 @@ def how_of(calls: Iterable[str], flags: int = 0) -> How:
 
 
 def how_used(used: Used, flags: int = 0) -> How:
-    """Returns how a pattern is called by its uses."""
+    """Returns how a pattern is called, from its uses."""
     sees = max((it.sees for it in used.uses), key=(TRUTH, SPANS, GROUPS).index)
     return How(frozenset(it.method for it in used.uses), flags, any(it.position for it in used.uses), sees, used.is_read)
 
 
 def same_spans(old: Text, new: Text, how: How) -> Answer:
-    """Returns whether code that calls a pattern so sees the same with the new one in the place of the old one.
+    """Returns whether code that calls a pattern in this way sees the same if the old pattern is replaced by the new one.
 
-    Both have to match the same texts in the modes of the calls, which `relint compare` proves; this is asked of what is found.
+    Both patterns have to match the same texts in the modes of the calls, which `relint compare` proves.
     """
     if how.only_truth():
         return Answer(SAME, "only whether there is a match counts")
-    proved = _proved(old, new, how)
-    if proved.word != UNKNOWN:
-        return proved
-    return replace(_checked(old, new, how), unproved=proved.reason)
+    answer = proved(old, new, how, alike.shared())
+    if answer.word != UNKNOWN:
+        return answer
+    return replace(checked(old, new, how), unproved=answer.reason)
 
 
-def _proved(old: Text, new: Text, how: How) -> Answer:
-    """What relint-spans says, or unknown with the reason."""
+def proved(old: Text, new: Text, how: How, asker: alike.Alike) -> Answer:
+    """Returns the answer of relint-spans, or unknown with the reason why its answer can't be used."""
     for mode in _modes(how):
-        said = alike.shared().ask(old, new, how.flags, mode)
+        said = asker.ask(old, new, how.flags, mode)
         if said.word == alike.DIFFER and mode == alike.EVERYWHERE and _is_one_search(how):
-            # (from some place they differ; but a search from the text's start may never come there)
-            said = alike.shared().ask(old, new, how.flags, alike.ONE_SEARCH)
+            # (they differ at some place, but a search from the start of the text may never come there)
+            said = asker.ask(old, new, how.flags, alike.ONE_SEARCH)
         if said.word == alike.UNKNOWN:
             return Answer(UNKNOWN, said.reason)
         if said.word == alike.DIFFER:
@@ -111,18 +111,18 @@ def _proved(old: Text, new: Text, how: How) -> Answer:
 
 
 def _is_one_search(how: How) -> bool:
-    """Whether the only calls but `fullmatch` are searches that begin at the text's start and happen once."""
+    """Whether all calls except `fullmatch` are single searches that begin at the start of the text."""
     return how.methods <= {"search", "fullmatch"} and not how.position
 
 
 def _modes(how: How) -> List[str]:
-    """The modes that relint-spans is asked for: from every place is enough for each `match` and all searches."""
+    """The modes to ask relint-spans about. The mode EVERYWHERE answers for `match` and for all searches."""
     found = [alike.WHOLE] if "fullmatch" in how.methods else []
     return found + ([alike.EVERYWHERE] if how.methods - {"fullmatch"} else [])
 
 
-def _checked(old: Text, new: Text, how: How) -> Answer:
-    """What the check of spans.py says, which is tested and not proved."""
+def checked(old: Text, new: Text, how: How) -> Answer:
+    """Returns the answer of the check in spans.py, which is tested but not proved."""
     try:
         pair = read_both([old, new], how.flags)
     except Unreadable as error:
@@ -137,12 +137,12 @@ def _checked(old: Text, new: Text, how: How) -> Answer:
 
 
 def same_unplaced(old: Text, new: Text, how: How) -> Answer:
-    """Returns the same for calls that are given no position."""
+    """Returns the answer of `same_spans` for the calls that give no position."""
     return same_spans(old, new, replace(how, position=False))
 
 
 def _asked(pair: List[Pattern], questions: Sequence[Question]) -> Answer:
-    """The answer to several questions: the first one that isn't the same."""
+    """The first answer to one of the questions that isn't "same", or "same" if all are."""
     for question in questions:
         found = spans.differ(pair, question)
         if found.same is None:
@@ -153,8 +153,11 @@ def _asked(pair: List[Pattern], questions: Sequence[Question]) -> Answer:
 
 
 def _questions(pair: List[Pattern], how: How) -> List[Tuple[Question, List[Question]]]:
-    """What is asked, each with what is asked in its place if it isn't the same: the same from each place of a text is more
-    than a search needs that begins at the text's start."""
+    """The questions to ask, each with other questions that replace it if its answer isn't "same".
+
+    The first question may ask for too much: a search that begins at the start of a text doesn't need the same matches from
+    every place.
+    """
     groups = how.sees == GROUPS
     found: List[Tuple[Question, List[Question]]] = []
     if "fullmatch" in how.methods:

@@ -1,4 +1,4 @@
-"""Texts made up from a pattern, to try it and a cure on: many match, many nearly do."""
+"""Makes texts on which a pattern and a cure are tried: many of them match, and many nearly do."""
 from __future__ import annotations
 
 import random
@@ -11,7 +11,7 @@ BLANKS = (" ", "\n", "\t")
 
 
 class Sampler:
-    """Makes texts biased toward the pattern's own characters. The same seed gives the same texts."""
+    """Makes random texts, mostly of characters that the pattern names. The same seed gives the same texts."""
 
     def __init__(self, pattern: Pattern, seed: int = 1) -> None:
         self.pattern = pattern
@@ -24,7 +24,7 @@ class Sampler:
         self.marks = sorted(marks | set(BLANKS))
 
     def of(self, mask: int) -> str:
-        """Returns a character of the mask, often one that the pattern names, or "" where it has none."""
+        """Returns a character of the mask, often one that the pattern names, or "" if the mask is empty."""
         if mask not in self.letters:
             alphabet = self.pattern.alphabet
             ranges = alphabet.ranges(mask)
@@ -37,7 +37,7 @@ class Sampler:
         return self.random.choice(found) if found else ""
 
     def text(self, node: Node) -> str:
-        """Returns a text that the node would match, guards left aside."""
+        """Returns a text that the node would match if its guards held."""
         if isinstance(node, Chars):
             return self.of(node.mask)
         if isinstance(node, Guard):
@@ -51,7 +51,7 @@ class Sampler:
         return self.rounds(node)
 
     def rounds(self, node: Repeat) -> str:
-        """Returns a text of a few rounds of a repeat."""
+        """Returns a text for a few rounds of a repeat."""
         count = min(node.least, 40) + min(self.random.choice((0, 0, 1, 1, 2, 3)), node.most - node.least)
         found = ""
         while count > 0 and len(found) <= LONGEST:
@@ -60,7 +60,7 @@ class Sampler:
         return found
 
     def spoiled(self, text: str) -> str:
-        """Returns the text with a few characters put in, taken out, doubled or put in another place."""
+        """Returns the text with up to three changes: characters put in, taken out, doubled or moved."""
         for _ in range(self.random.choice((0, 0, 1, 1, 2, 3))):
             at, kind = self.random.randrange(len(text) + 1), self.random.random()
             if kind < 0.4:
@@ -74,7 +74,7 @@ class Sampler:
         return text
 
     def texts(self, count: int) -> List[str]:
-        """Returns that many texts, none of them longer than LONGEST."""
+        """Returns `count` texts, none of them longer than LONGEST."""
         found = ["", " ", "\n"]
         while len(found) < count:
             text = self.text(self.pattern.tree)

@@ -1,4 +1,4 @@
-"""The search for a cure: rules propose, relint and the check of spans judge."""
+"""Searches for a cure: rules propose patterns, and relint and the comparison of spans judge them."""
 from __future__ import annotations
 
 import heapq
@@ -24,7 +24,7 @@ from .trial import Trial, tried
 from .write import Unwritable, body, kept, plain
 
 Path = Tuple[int, ...]
-# What is less for a better tree: its class, and how many of its loops are exponential by themselves.
+# The class of a tree, and how many of its loops are exponential by themselves. A better tree has less.
 Worth = Tuple[Order, int]
 
 LONGEST = 4000
@@ -32,7 +32,7 @@ BATCH = 60
 MOST_PROPOSALS, MOST_MADE = 240, 2000
 GOOD, FAIR = degree(1), degree(2)
 MORE_TRIES, MOST_EVEN = 10, 8
-# A new group is as hard to read as so many new characters.
+# A new group counts as this many new characters, because it is as hard to read.
 GROUP_WEIGHT = 3
 
 
@@ -41,10 +41,10 @@ SAYINGS = {it.name: it.says for it in (*RULES, LINE_ANCHOR)}
 
 @dataclass(frozen=True)
 class Limits:
-    """How far a search goes: `tries` comparisons, `steps` of rules one after another, and `work`, the patterns that relint is
-    asked the class of. None of these is time, so the answer is the same on a busy machine.
+    """The limits of a search. None of them is a time, so the answer is the same on a busy machine.
 
-    Each cure is tried on `texts` texts with the running Python in the end.
+    A search makes up to `tries` comparisons, applies up to `steps` rules one after another, and asks relint for the classes of
+    up to `work` patterns. At the end each cure is tried on `texts` texts with the running Python.
     """
 
     tries: int = 50
@@ -55,7 +55,10 @@ class Limits:
 
 @dataclass(frozen=True)
 class Cure:
-    """A pattern that matches the same texts and costs less in the mode. `steps` are the rules that led to it."""
+    """A pattern that matches the same texts as the original and has a lower class in `mode`.
+
+    `before` is the class of the original; `steps` are the names of the rules that led to the cure, in order.
+    """
 
     pattern: Text
     verdict: Verdict
@@ -66,7 +69,7 @@ class Cure:
     mode: str = "search"
 
     def changes(self) -> str:
-        """Returns what the rules changed, and why nothing is lost by it: a sentence for each."""
+        """Returns a sentence for each rule that was applied: what it changed, and why that loses nothing."""
         return " ".join(dict.fromkeys(SAYINGS[it] for it in self.steps if SAYINGS.get(it)))
 
     def words(self) -> str:
@@ -86,7 +89,10 @@ class Cure:
 
 @dataclass(frozen=True)
 class Miss:
-    """A proposal of a lower class that matches other texts: `left` is matched by the original alone, `right` by it."""
+    """A proposal of a lower class that doesn't match the same texts.
+
+    Only the original matches `left`, and only the proposal matches `right`; one of the two may be None.
+    """
 
     pattern: Text
     verdict: Verdict
@@ -96,9 +102,11 @@ class Miss:
 
 @dataclass
 class Outcome:
-    """What a search found. `why` says why there is no cure, where there is none; `faults` are the loops that are at fault.
+    """What a search found.
 
-    `relaxed` is a pattern that leaves out more in its runs, `meant` one with escaped dots; `in_code` says what to do in code.
+    `before` is the class of the original, or None if relint didn't give one. `why` says why there is no cure, and is "" if
+    there is one. `faults` are the texts of the loops at fault. `relaxed` is a pattern whose runs leave out more characters,
+    `meant` is one with escaped dots, and `in_code` says what could be done in code instead.
     """
 
     before: Optional[Verdict]
@@ -116,13 +124,13 @@ class Outcome:
     in_code: Optional[str] = None
 
     def best(self) -> Optional[Cure]:
-        """Returns the cure of the best tier, and of the least class in it."""
+        """Returns the cure of the best tier, or None if there is no cure."""
         return self.cures[0] if self.cures else None
 
 
 @dataclass(frozen=True)
 class Proposal:
-    """A tree that a rule put in place of another one."""
+    """A whole tree that results from one use of a rule, with its text and the cost of the rule."""
 
     cost: float
     rule: str
@@ -131,21 +139,24 @@ class Proposal:
 
 
 def positions(node: Node, path: Path = ()) -> Iterator[Tuple[Path, Node]]:
-    """Yields each node with the way to it, the outer ones first."""
+    """Yields each node with the path to it, outer nodes before inner ones."""
     yield path, node
     for at, it in enumerate(children(node)):
         yield from positions(it, (*path, at))
 
 
 def put(tree: Node, path: Path, new: Node) -> Node:
-    """Returns the tree with another node at the end of the way."""
+    """Returns the tree with the node at the end of the path replaced."""
     if not path:
         return new
     return with_child(tree, path[0], put(children(tree)[path[0]], path[1:], new))
 
 
 def distance(old: str, new: str) -> int:
-    """Returns how far a pattern is from the old one for a reader: what was edited, and more for length and new groups."""
+    """Returns how different two patterns look to a reader.
+
+    That is how many characters were edited, by how many the pattern got longer, and GROUP_WEIGHT for each new group.
+    """
     start = len(os.path.commonprefix([old, new]))
     tail = len(os.path.commonprefix([old[start:][::-1], new[start:][::-1]]))
     matcher = SequenceMatcher(None, old[start:len(old) - tail], new[start:len(new) - tail], autojunk=False)
@@ -155,11 +166,11 @@ def distance(old: str, new: str) -> int:
 
 
 class Search:
-    """One search. The trees are those of one pattern, over its alphabet."""
+    """One search for cures of a pattern. All its trees use the alphabet of that pattern."""
 
     def __init__(self, pattern: Text, mode: str, how: How, limits: Limits, asker: Asker,
                  rules: Sequence[Rule] = RULES) -> None:
-        """Takes the pattern, the mode whose class is to go down, how it is called, and what asks relint."""
+        """Takes the pattern, the mode in which its class is to become lower, and how the pattern is called."""
         self.original = pattern
         self.flags = how.flags
         self.mode = mode
@@ -181,7 +192,7 @@ class Search:
         self.read: Pattern
 
     def run(self) -> Outcome:
-        """Searches, and returns what was found."""
+        """Searches, tries the cures with the running Python, and returns the outcome."""
         start, runs = time.monotonic(), self.asker.runs
         before = self.asker.classes([self.original], self.flags, self.mode)[0]
         outcome = Outcome(before, self.mode)
@@ -199,7 +210,10 @@ class Search:
         return outcome
 
     def add_notes(self, outcome: Outcome) -> None:
-        """Adds what a person could do: other patterns that cost less with texts on which they differ, and words."""
+        """Adds what a person could do instead, unless the class is good already.
+
+        These are patterns of a lower class with texts on which they differ and, if there is no cure, advice for the code.
+        """
         if order(outcome.before) <= GOOD or not hasattr(self, "read"):
             return
         outcome.meant = self.other(notes.with_dots(self.read))
@@ -208,7 +222,7 @@ class Search:
             outcome.in_code = notes.in_code(self.read)
 
     def other(self, text: Optional[str]) -> Optional[Miss]:
-        """Returns a pattern of other texts with one of each side, where its class is lower."""
+        """Returns a pattern with texts on which it differs from the original, or None if its class isn't lower."""
         if text is None:
             return None
         verdict = self.classes([self.encoded(text)], self.flags, self.mode)[0]
@@ -218,7 +232,7 @@ class Search:
         return Miss(self.encoded(text), verdict, found.first, found.second)
 
     def try_out(self, outcome: Outcome) -> None:
-        """Tries each cure with the running Python; one that differs there from what its tier says is dropped."""
+        """Tries each cure with the running Python, and drops the cures that don't behave as their tier says."""
         if not self.best or not self.limits.texts:
             return
         texts = Sampler(self.read).texts(self.limits.texts)
@@ -231,7 +245,7 @@ class Search:
             outcome.why = "what was found differs from the pattern where this Python runs both"
 
     def found(self, before: Verdict) -> str:
-        """Searches from a pattern of that class; returns why there is no cure, or ""."""
+        """Reads the pattern and searches for cures; `before` is its class. Returns why there is no cure, or "" if there is."""
         self.before = before
         try:
             self.read = read(self.original, self.flags)
@@ -249,20 +263,20 @@ class Search:
         return "no proposal was the same and better within the limits"
 
     def encoded(self, text: str) -> Text:
-        """Returns the text as the original is, text or bytes."""
+        """Returns the text as it is, or as bytes if the original is a bytes pattern."""
         return text if isinstance(self.original, str) else text.encode("latin-1")
 
     def left(self) -> bool:
-        """Returns whether tries and work are left."""
+        """Returns whether the search is to go on: tries and work are left, and no cure is good enough."""
         return self.tries < self.limits.tries and len(self.asked) < self.limits.work and not self.enough()
 
     def classes(self, patterns: Sequence[Text], flags: int, mode: str) -> List[Optional[Verdict]]:
-        """Asks relint for classes; each pattern that it hasn't been asked of counts as work."""
+        """Returns the classes that relint gives to patterns; each pattern that it wasn't asked about before counts as work."""
         self.asked.update((it, mode) for it in patterns)
         return self.asker.classes(patterns, flags, mode)
 
     def walk(self, text: str) -> None:
-        """Goes from the original to better patterns, the best ones first."""
+        """Goes from the original to better patterns, step by step, the best ones first; cures are kept in `self.best`."""
         tree = self.read.tree
         self.seen.add(text)
         queue: List[Tuple[Tuple[Order, int, int, int], int, Node, Tuple[str, ...]]] = []
@@ -281,7 +295,7 @@ class Search:
                 return
 
     def loops_at_fault(self) -> List[str]:
-        """Returns the texts of the innermost loops that are exponential by themselves, as the original has them."""
+        """Returns the texts, in the original, of the innermost loops that are exponential by themselves."""
         found: List[str] = []
         for path in self.guilty(self.read.tree):
             node = self.read.tree
@@ -292,7 +306,10 @@ class Search:
         return found
 
     def enough(self) -> bool:
-        """Returns whether the best cure is good enough, or is no finding and has been tried long enough to better."""
+        """Returns whether the cure of tier a is good enough.
+
+        It is if its class is GOOD or better, or if it is FAIR and MORE_TRIES more tries brought nothing better.
+        """
         done = self.best.get("a")
         if done is None:
             return False
@@ -300,13 +317,13 @@ class Search:
         return worth <= GOOD or worth <= FAIR and self.tries >= self.kept_at + MORE_TRIES
 
     def extra(self) -> int:
-        """Returns how many steps more are allowed: one for each loop that is exponential by itself beyond the first."""
+        """Returns how many more steps are allowed: one for each loop that is exponential by itself, except the first."""
         return max(0, len(self.guilty(self.read.tree)) - 1)
 
     # What is proposed
 
     def loops(self, tree: Node) -> Tuple[List[Path], List[Text]]:
-        """Returns the ways to the loops that can be judged by themselves, and their texts as patterns."""
+        """Returns the paths to the loops that can be judged by themselves, and a pattern for each of these loops."""
         paths: List[Path] = []
         texts: List[Text] = []
         prefix = front(self.read.flags & ~re.VERBOSE)
@@ -320,7 +337,7 @@ class Search:
         return paths, texts
 
     def guilty(self, tree: Node) -> List[Path]:
-        """Returns the ways to the loops that are exponential by themselves and hold no smaller one that is."""
+        """Returns the paths to the loops that are exponential by themselves and contain no smaller loop that is."""
         if order(self.before) != EXPONENTIAL:
             return []
         paths, texts = self.loops(tree)
@@ -329,12 +346,12 @@ class Search:
         return [it for it in found if not any(other != it and other[:len(it)] == it for other in found)]
 
     def ask_ahead(self, trees: Sequence[Node]) -> None:
-        """Asks of the loops of all these trees in one run, so that `guilty` finds the answers there."""
+        """Asks relint about the loops of all these trees in one run, so that `guilty` needs no run of its own for each."""
         if order(self.before) == EXPONENTIAL:
             self.classes([text for it in trees for text in self.loops(it)[1]], 0, "fullmatch")
 
     def proposals(self, tree: Node) -> List[Proposal]:
-        """Returns what the rules give for the tree, each text once, the cheapest first."""
+        """Returns the proposals of the rules for the tree, the cheapest first; no text is proposed twice in a search."""
         guilty = self.guilty(tree)
         found: List[Proposal] = []
         for rule in self.rules:
@@ -350,7 +367,10 @@ class Search:
         return sorted(found, key=lambda it: it.cost)[:MOST_PROPOSALS]
 
     def proposal(self, rule: Rule, cost: float, tree: Node) -> List[Proposal]:
-        """Returns the proposal where its text is new and has the groups of the original, else nothing."""
+        """Returns a list of one proposal for the tree, or an empty list.
+
+        It is empty if the tree doesn't have the groups of the original, or if its text is too long or was proposed before.
+        """
         if tree.facts.groups != self.read.tree.facts.groups:
             return []
         try:
@@ -365,7 +385,10 @@ class Search:
     # What is judged
 
     def followers(self, tree: Node, badness: Worth) -> List[Tuple[Proposal, Worth, str]]:
-        """Returns the proposals for a tree that are the same and better; where none has tier a, some that are no worse too."""
+        """Returns the proposals for a tree that match the same texts and are better, with their worth and tier.
+
+        If none of them is of tier a, some proposals that are as good as the tree are returned too.
+        """
         found: List[Tuple[Proposal, Worth, str]] = []
         even: List[Tuple[Proposal, Worth]] = []
         every = self.proposals(tree)
@@ -391,11 +414,15 @@ class Search:
         return found
 
     def far(self, proposal: Proposal) -> int:
-        """Returns how far a proposal is from the original."""
+        """Returns how different a proposal looks from the original, as `distance` counts it."""
         return distance(self.read.text, proposal.text)
 
     def judged(self, proposal: Proposal, verdict: Optional[Verdict]) -> str:
-        """Compares a proposal with the original; returns its tier, or "" where it isn't the same. Keeps it as a cure."""
+        """Compares a proposal with the original; returns its tier, or "" if it doesn't match the same texts.
+
+        If its class `verdict` is lower and it is no worse in any mode, it is kept as a cure. A proposal that doesn't match the
+        same texts is kept as a miss if its class is lower. Returns "" if no tries or work are left.
+        """
         if not self.left():
             return ""
         self.tries += 1
@@ -409,7 +436,7 @@ class Search:
         return judged.tier
 
     def miss(self, text: Text, verdict: Optional[Verdict]) -> None:
-        """Keeps a proposal that is better and not the same, with the texts that show it."""
+        """Keeps a proposal of a lower class that doesn't match the same texts, with texts that show the difference."""
         if verdict is None or order(verdict) >= order(self.before):
             return
         for mode in self.modes:
@@ -419,7 +446,7 @@ class Search:
                 return
 
     def no_worse(self, text: Text) -> bool:
-        """Returns whether the class is no worse than the original's in the other modes that count."""
+        """Returns whether the class of `text` is no worse than that of the original in any mode that counts."""
         for mode in self.modes:
             one, other = self.asker.classes([self.original, text], self.flags, mode)
             if order(other) > order(one):
@@ -427,7 +454,7 @@ class Search:
         return True
 
     def keep(self, proposal: Proposal, verdict: Verdict, judged: Judgement) -> None:
-        """Keeps a cure where it is the best one of its tier so far: that of the best class, and then the nearest."""
+        """Keeps a cure if it is the best of its tier so far: by its class, then by how near it is to the original."""
         worth = order(verdict), self.far(proposal)
         if judged.tier in self.best and self.kept.get(judged.tier, worth) <= worth:
             return
@@ -437,7 +464,10 @@ class Search:
         self.best[judged.tier] = Cure(text, verdict, judged.tier, self.before, (*self.steps, proposal.rule), judged, self.mode)
 
     def as_written(self, proposal: Proposal, judged: Judgement) -> Tuple[Text, Judgement]:
-        """Returns the proposal with all that didn't change as the original has it, where that is the same pattern."""
+        """Returns the proposal with its unchanged parts written as in the original, and the judgement of that text.
+
+        Falls back to the plain text if the other text can't be shown to be the same pattern, or if its tier differs.
+        """
         verbose = bool(self.read.flags & re.VERBOSE)
         written = self.encoded(with_layout(self.read.text, kept(proposal.tree, self.read), verbose))
         if written == self.encoded(proposal.text):

@@ -1,12 +1,11 @@
-r"""Whether two patterns find the same spans and groups, on every text.
+r"""Checks whether two patterns find the same spans and groups on every text.
 
 Both patterns become small programs for an engine that keeps an ordered list of threads: the first thread is the one that a
 backtracking engine tries first. Both engines run together over the classes of characters that the patterns tell apart, with
-the places of groups renamed in the order in which they come. Where all reachable pairs of lists have been seen and no text
-showed a difference, there is none. The empty rounds of a loop are those of CPython: a round that begins where the round before
-it began isn't tried.
+the places of groups renamed in the order in which they come. If no difference shows up in any reachable pair of lists, there
+is none. Empty rounds of a loop are treated as in CPython: a round that begins where the round before it began isn't tried.
 
-The check is tested against `re`, and not proved. Where it passes a limit it answers "not known".
+The check is tested against `re`, but not proved. If it exceeds a limit, the answer isn't known.
 """
 from __future__ import annotations
 
@@ -19,7 +18,7 @@ from .tree import Chars, Choice, Concat, Group, Guard, Node, Pattern, Repeat
 MOST_INSTRUCTIONS = 3000
 MOST_COUNT = 64
 MOST_STATES = 6000
-# Threads that are moved, over all pairs of lists: some seconds of work.
+# The most threads that are moved, in all pairs of lists together. This takes some seconds.
 MOST_MOVES = 2_000_000
 
 CHAR, JUMP, SPLIT, SAVE, GUARD, CLEAR, ROUND, MATCH = range(8)
@@ -30,15 +29,16 @@ Threads = Tuple[Thread, ...]
 
 
 class NotKnown(Exception):
-    """The check passed a limit; the message says which."""
+    """Raised if the check exceeds a limit; the message says which."""
 
 
 @dataclass(frozen=True)
 class Question:
-    """What is asked: `kind` is prefix, whole, search or again. `later` asks of searches that begin inside a text too.
+    """A question to the check. `kind` is prefix (for `match`), whole (for `fullmatch`), search or again.
 
-    With `advance` a match that is empty where the search begins doesn't count, as after an empty match of `finditer`. `again`
-    asks of each search that begins where a match of the first pattern ended, as those of `finditer` do.
+    The kind "again" is about each search that begins where a match of the first pattern ended, as in `finditer`. `groups` says
+    that groups count, `later` that calls that begin inside a text count. With `advance`, an empty match where the search
+    begins doesn't count, as after an empty match of `finditer`.
     """
 
     kind: str
@@ -49,7 +49,11 @@ class Question:
 
 @dataclass(frozen=True)
 class Answer:
-    """`same` is None where it isn't known. Where it is False, `text` shows it, for a search that begins at `start`."""
+    """The answer of the check. `same` is None if it isn't known, and `why` says the reason.
+
+    If `same` is False, the patterns differ on `text` if the call begins at `start`. `states` is how many pairs of lists were
+    seen.
+    """
 
     same: Optional[bool]
     why: str = ""
@@ -60,7 +64,7 @@ class Answer:
 
 @dataclass
 class Instruction:
-    """One step of a program; what `x` and `y` are depends on `op`."""
+    """One step of a program. What `x` and `y` mean depends on `op`."""
 
     op: int
     x: int = 0
@@ -69,11 +73,11 @@ class Instruction:
 
 
 class Program:
-    """The program of one pattern."""
+    """The program of one pattern. Raises NotKnown if it gets too large."""
 
     def __init__(self, tree: Node, count: int, groups: bool) -> None:
         self.code: List[Instruction] = []
-        # (the place where the match begins, those of the groups, and the group that was closed last)
+        # (where the match begins, where the groups begin and end, and which group was closed last)
         self.slots = 2 * count + 2 if groups else 1
         self.groups = groups
         self.loops = 0
@@ -150,9 +154,9 @@ class Program:
 
 @dataclass(frozen=True)
 class Place:
-    """What a guard can see: the class of the character before (-1 at the text's start), and of the one behind.
+    """What a guard can see: the class of the character before, START at the start of the text, and of the character after.
 
-    `after` is END behind the text's last character; `last` says that it is a newline with nothing behind it.
+    `after` is END at the end of the text. `last` says that the character after is a newline that ends the text.
     """
 
     before: int
@@ -165,7 +169,7 @@ START = -1
 
 
 class Letters:
-    """The classes of characters that two trees tell apart, as masks, and what guards see of them."""
+    """The classes of characters that two patterns tell apart, as masks, and what guards see of them."""
 
     def __init__(self, patterns: Sequence[Pattern]) -> None:
         alphabet = patterns[0].alphabet
@@ -186,32 +190,32 @@ class Letters:
         self.masks = _refined(alphabet.full, [*masks, *seen])
         self.not_word_in_empty = False
         self.looks_back = bool(self.kinds & {"start", "line-start", "word", "not-word"})
-        # (guards see the sets of `seen` alone, so a class of characters is known to them by these)
+        # (guards see only whether a character is in each of the sets in `seen`)
         self.classes = sorted({self.seen_as(it) for it in self.masks})
         self.following = list(self._following())
 
     def seen_as(self, mask: int) -> int:
-        """Returns a number that is equal for two classes exactly where no guard tells them apart."""
+        """Returns a number that is equal for two classes if and only if no guard tells them apart."""
         found = 1 if mask & self.newline else 0
         for at, it in enumerate(sorted(self.words)):
             found |= (2 << at) if mask & self.words[it] else 0
         return found
 
     def is_word(self, seen: int, ascii_only: bool) -> bool:
-        """Returns whether the class that guards see so is one of word characters."""
+        """Returns whether a class, as `seen_as` gives it, is one of word characters; False for START and END."""
         return seen >= 0 and bool(seen & (2 << sorted(self.words).index(ascii_only)))
 
     def _following(self) -> Iterator[Tuple[int, int, bool, bool]]:
-        """Yields each character that may come: its mask, its class, and whether the text may end and may go on behind it."""
+        """Yields each kind of next character: its mask, its class, and whether the text may end or go on after it."""
         for mask in self.masks:
             newline = "end-or-newline" in self.kinds and bool(mask & self.newline)
             yield mask, self.seen_as(mask), not newline, True
             if newline:
-                # (`$` holds before a newline that ends the text, so that one is a character of its own)
+                # (`$` holds before a newline that ends the text, so such a newline is a kind of its own)
                 yield mask, self.seen_as(mask), True, False
 
     def holds(self, guard: Guard, place: Place) -> bool:
-        """Returns whether the guard holds at the place."""
+        """Returns whether the guard holds at a place."""
         kind = guard.kind
         if kind == "start":
             return place.before == START
@@ -230,6 +234,7 @@ class Letters:
 
 
 def _nodes(node: Node) -> List[Node]:
+    """The node and all nodes under it."""
     found: List[Node] = []
     todo = [node]
     while todo:
@@ -245,6 +250,7 @@ def _nodes(node: Node) -> List[Node]:
 
 
 def _refined(full: int, masks: Sequence[int]) -> List[int]:
+    """The parts into which the masks divide the mask `full`."""
     parts = [full]
     for mask in masks:
         parts = [cut for it in parts for cut in (it & mask, it & ~mask) if cut]
@@ -253,15 +259,16 @@ def _refined(full: int, masks: Sequence[int]) -> List[int]:
 
 def closure(program: Program, letters: Letters, threads: Threads, now: int, place: Place, accepts: bool
             ) -> Tuple[List[Thread], Optional[Caps]]:
-    """Returns the threads that wait for a character, in order, and the places of the match that cuts them off, if any.
+    """Runs the threads up to the next character; returns those that wait for it, in order, and a match if there is one.
 
-    Without `accepts` no match counts here.
+    The match is the slots of the first thread that matches here; the threads after it are dropped. Without `accepts`, no match
+    counts here. `now` is the number of the present place.
     """
     code = program.code
     waiting: List[Thread] = []
     seen: Set[Tuple[int, int]] = set()
     for start, first_caps in threads:
-        # (the marks are the loops whose last round began here, one bit each)
+        # (each bit of the marks is a loop whose last round began here)
         stack = [(start, first_caps, 0)]
         while stack:
             at, caps, marks = stack.pop()
@@ -292,17 +299,17 @@ def closure(program: Program, letters: Letters, threads: Threads, now: int, plac
 
 
 def _saved(caps: Caps, slot: int, now: int) -> Caps:
-    """Returns the places with `now` in a slot. An even slot closes a group, which becomes the one that was closed last."""
+    """Returns the slots with `now` in one of them. An even slot closes its group, which is then the one closed last."""
     found = list(caps)
     found[slot] = now
     if slot % 2 == 0:
-        # (the last slot is the group that was closed last, as a number below all places)
+        # (the last slot is the group that was closed last, as a negative number)
         found[-1] = -1 - slot // 2
     return tuple(found)
 
 
 def _rounds(step: Instruction, at: int, caps: Caps, marks: int) -> List[Tuple[int, Caps, int]]:
-    """Returns where a thread goes on from the head of a loop, the first choice last.
+    """Returns where a thread goes on from the head of a loop; the first choice comes last, since a stack takes it first.
 
     It leaves the loop or begins another round, but no round begins where the round before it began.
     """
@@ -316,10 +323,13 @@ def _rounds(step: Instruction, at: int, caps: Caps, marks: int) -> List[Tuple[in
 
 @dataclass(frozen=True)
 class State:
-    """Both lists of threads with what is known of the text so far.
+    """Both lists of threads, and what is known of the text so far.
 
-    `refuse` says that no match counts here. `higher` are threads of the first pattern that went before the match at whose end
-    this search begins, and so find nothing; `fresh` says that this is that end, and that `higher` holds the match itself too.
+    `looking` says for each side that its search hasn't found a match yet, and `agree` that both sides found the same so far.
+    `before` is the class of the last character. `refuse` says that no match counts here.
+
+    In the kind "again", `higher` are the threads of the first pattern that come before the match at whose end this search
+    begins; they must not match. `fresh` says that this is that end, and that the match itself is among `higher`.
     """
 
     threads: Tuple[Threads, Threads]
@@ -334,6 +344,7 @@ class State:
 
 
 def _renamed(both: Tuple[Sequence[Thread], Sequence[Thread]]) -> Tuple[Tuple[Threads, Threads], int]:
+    """Both lists with their places renamed to 0, 1 and so on in the order in which they come, and how many there are."""
     names: Dict[int, int] = {}
     found: List[Threads] = []
     for threads in both:
@@ -351,7 +362,7 @@ Expanded = Tuple[List[List[Thread]], Tuple[bool, bool], bool]
 
 
 class _Product:
-    """Both engines run together."""
+    """Runs both engines together under a question."""
 
     def __init__(self, patterns: Sequence[Pattern], question: Question) -> None:
         count = max(it.groups for it in patterns)
@@ -364,7 +375,7 @@ class _Product:
         self.alphabet = patterns[0].alphabet
 
     def starts(self) -> List[State]:
-        """Returns the states in which a search may begin."""
+        """Returns the states in which a call may begin."""
         if self.question.kind == "again":
             return list(self.ends())
         befores = [START]
@@ -375,7 +386,10 @@ class _Product:
         return [State((threads, threads), looking, True, it, True, True, self.question.advance) for it in befores]
 
     def ends(self) -> Iterator[State]:
-        """Yields the states at the end of a match of the first pattern, wherever in a text that match began."""
+        """Yields the states at the end of each match of the first pattern, which may begin anywhere in a text.
+
+        Raises NotKnown if there are too many.
+        """
         begun = ((0, self.no_caps),)
         befores = [START, *self.letters.classes] if self.letters.looks_back else [START]
         todo = [State((begun, ()), (False, False), True, it, True, True, refuse) for it in befores for refuse in (False, True)]
@@ -395,7 +409,7 @@ class _Product:
                 raise NotKnown("too many lists")
 
     def onward(self, state: State) -> Iterator[State]:
-        """Yields the lists of the first pattern alone, without groups, that follow on each character."""
+        """Yields the states after each next character, with only the threads of the first pattern and without groups."""
         if not state.may_go_on:
             return
         for mask, seen, may_end, may_go_on in self.letters.following:
@@ -406,17 +420,20 @@ class _Product:
             yield State((threads, ()), (False, False), True, before, may_end, may_go_on, False)
 
     def held(self, state: State, after: int, last: bool) -> Optional[List[int]]:
-        """Returns the threads that went before the match and still wait, or None where they show that it wasn't the match."""
+        """Returns the threads of `higher` that still wait, or None if they show that the match before wasn't the one found."""
         if state.higher is None:
             return []
         threads = tuple((at, self.no_caps) for at in state.higher)
         place = Place(state.before, after, last)
-        # (an empty match where the search began is refused there, but it is one at the end of the search before)
+        # (an empty match counts here even if this search refuses it, since it ends the search before)
         waiting, match = closure(self.programs[0], self.letters, threads, 0, place, True)
         return [at for at, _ in waiting] if (match is not None) == state.fresh else None
 
     def expand(self, state: State, now: int, after: int, last: bool) -> Expanded:
-        """Returns both lists of waiting threads before a character of that class, and what was found here."""
+        """Runs both sides up to a next character of the class `after`.
+
+        Returns both lists of waiting threads, which sides still look for a match, and whether both found the same.
+        """
         place = Place(state.before, after, last)
         accepts = not state.refuse and (self.question.kind != "whole" or after == END)
         lists: List[List[Thread]] = []
@@ -434,7 +451,7 @@ class _Product:
         return lists, (looking[0], looking[1]), agree
 
     def takers(self, lists: List[List[Thread]], held: List[int], mask: int) -> Tuple[int, ...]:
-        """Returns which of the waiting threads take a character of that mask, as positions of both lists in one row."""
+        """Returns a key for the waiting threads that can go on with a character of that mask."""
         left, right = self.programs[0].code, self.programs[1].code
         found = [it for it in held if left[it].x & mask]
         found += [-1 - at for at, (it, _) in enumerate(lists[0]) if left[it].x & mask]
@@ -443,7 +460,7 @@ class _Product:
         return tuple(found)
 
     def step(self, lists: List[List[Thread]], mask: int) -> Tuple[List[Thread], List[Thread]]:
-        """Returns both lists behind a character of that mask."""
+        """Returns both lists of threads after a character of that mask."""
         sides = []
         for program, waiting in zip(self.programs, lists):
             sides.append([(at + 1, caps) for at, caps in waiting if program.code[at].x & mask])
@@ -452,7 +469,7 @@ class _Product:
 
 def differ(patterns: Sequence[Pattern], question: Question, most_states: int = MOST_STATES, most_moves: int = MOST_MOVES
            ) -> Answer:
-    """Answers whether the two patterns, read over one alphabet, find the same under the question."""
+    """Answers whether two patterns that were read over one alphabet find the same under a question."""
     try:
         return _Run(_Product(patterns, question), most_states, most_moves).answer()
     except NotKnown as limit:
@@ -460,7 +477,7 @@ def differ(patterns: Sequence[Pattern], question: Question, most_states: int = M
 
 
 class _Run:
-    """One walk over all pairs of lists that texts lead to, breadth first."""
+    """A breadth-first walk over all pairs of lists that texts lead to."""
 
     def __init__(self, product: _Product, most_states: int, most_moves: int) -> None:
         self.product = product
@@ -489,7 +506,7 @@ class _Run:
             self.todo.append(state)
 
     def shows(self, state: State) -> bool:
-        """Returns whether the patterns differ where the text ends here; adds what comes behind otherwise."""
+        """Returns whether the patterns differ if the text ends here; if not, adds the states that follow."""
         product, letters = self.product, self.product.letters
         (_, now) = _renamed(state.threads)
         if state.may_end and not self.agree_at_end(state, now):
@@ -506,7 +523,7 @@ class _Run:
             self.moves += 1 + len(found[0][0]) + len(found[0][1])
             if held is None:
                 continue
-            # (characters of one class that the same threads take lead to the same state)
+            # (characters of one class with which the same threads go on lead to the same state)
             taken = (seen, last, may_end, product.takers(found[0], held, mask))
             if taken not in met:
                 met.add(taken)
@@ -514,10 +531,10 @@ class _Run:
         return False
 
     def agree_at_end(self, state: State, now: int) -> bool:
-        """Returns whether both sides found the same where the text ends here."""
+        """Returns whether both sides found the same if the text ends here."""
         letters = self.product.letters
         for letters.not_word_in_empty in (True, False) if state.before == START else (False,):
-            # (what a boundary is in the empty text differs among versions of Python, so both ways count)
+            # (versions of Python differ in whether `\B` matches in an empty text, so both are checked)
             if self.product.held(state, END, False) is None:
                 continue
             if not self.product.expand(state, now, END, False)[2]:
@@ -525,7 +542,7 @@ class _Run:
         return True
 
     def follow(self, state: State, held: List[int], found: Expanded, mask: int, may_end: bool, may_go_on: bool) -> None:
-        """Adds the state behind a character of that mask."""
+        """Adds the state after a character of that mask, unless nothing can differ from there on."""
         lists, looking, agree = found
         product, letters = self.product, self.product.letters
         left, right = product.step(lists, mask)
@@ -538,6 +555,7 @@ class _Run:
         self.add(State(threads, looking, agree, before, may_end, may_go_on, False, higher), (state, mask))
 
     def witness(self, state: State) -> Answer:
+        """Returns the answer for a state that shows a difference, with the text that leads to it."""
         letters: List[str] = []
         at = state
         while True:
@@ -551,6 +569,7 @@ class _Run:
         return Answer(False, "a text shows it", front + text, len(front), len(self.parents))
 
     def front(self, before: int) -> str:
+        """Returns a character of the class, to put before the place where the call begins; "" for START."""
         if before == START:
             return ""
         masks = [it for it in self.product.letters.masks if self.product.letters.seen_as(it) == before]
@@ -558,9 +577,10 @@ class _Run:
 
 
 def found(patterns: Sequence[Pattern], text: str, start: int, kind: str) -> List[Optional[Caps]]:
-    """Returns the places of the groups that each of the patterns finds in the text from a place on, as `re` does.
+    """Returns for each pattern the places of its match and groups in a text, for a call that begins at `start`; or None.
 
-    The first one is where the match begins; -1 stands for none, and the last number for the group that was closed last.
+    The first number is where the match begins. Then come the start and the end of each group, -1 if it took no part. The last
+    number tells the group that was closed last.
     """
     product = _Product(patterns, Question(kind))
     letters, alphabet = product.letters, product.alphabet

@@ -1,8 +1,8 @@
-"""A small tree of patterns: what it is made of, and how one is read from a text.
+"""Trees of patterns: their nodes, and a reader that makes a tree from a text.
 
-The reader takes what relint takes: no backreferences, lookaround, conditionals, atomic groups, possessive quantifiers, names
-of characters or LOCALE. A `Chars` node has a mask over an `Alphabet`; while a text is being read it is the number of its set.
-A node that was read keeps the span of its text; a node that was made anew has none.
+The reader accepts what relint accepts: no backreferences, lookaround, conditionals, atomic groups, possessive quantifiers,
+names of characters or LOCALE. A `Chars` node has a mask over an `Alphabet`; while a text is being read, the mask is the number
+of its set instead. A node that was read from a text has the span of that text; a new node has none.
 """
 from __future__ import annotations
 
@@ -21,12 +21,15 @@ MOST_DEPTH = 100
 
 
 class Unreadable(Exception):
-    """The pattern is beyond the reader; the message says what is there and where."""
+    """Raised if the reader doesn't accept a pattern; the message says what is in it, and where."""
 
 
 @dataclass(frozen=True)
 class Facts:
-    """What is known of a node without a look at its text."""
+    """What is known of a node: whether it can match the empty text, its groups, whether it has a guard, and more.
+
+    `mask` are the characters in it, `first` those that its matches may begin with, and `size` is its number of nodes.
+    """
 
     nullable: bool
     groups: Tuple[Tuple[int, Optional[str]], ...]
@@ -38,7 +41,7 @@ class Facts:
 
 @dataclass(frozen=True)
 class Chars:
-    """One character of a mask. `text` is how it was written, where it was read under the flags of the whole pattern."""
+    """One character that is in a mask. `text` is how it was written, or None outside of the flags of the whole pattern."""
 
     mask: int
     text: Optional[str] = field(default=None, compare=False)
@@ -51,7 +54,7 @@ class Chars:
 
 @dataclass(frozen=True)
 class Guard:
-    r"""A place without a character: start, line-start, line-end, end-or-newline (`$`), end, word or not-word."""
+    r"""A condition on a place in the text: start, line-start, line-end, end-or-newline (`$`), end, word or not-word."""
 
     kind: str
     ascii_only: bool
@@ -65,7 +68,7 @@ class Guard:
 
 @dataclass(frozen=True)
 class Concat:
-    """Parts one after another; none of them is the empty text."""
+    """Parts one after another. No part is a `Concat`; without parts it matches the empty text."""
 
     items: Tuple["Node", ...]
     span: Span = field(default=None, compare=False)
@@ -82,7 +85,7 @@ class Concat:
 
 @dataclass(frozen=True)
 class Choice:
-    """One of two branches or more, the earlier ones first."""
+    """A choice of two or more branches; earlier branches are tried first."""
 
     branches: Tuple["Node", ...]
     span: Span = field(default=None, compare=False)
@@ -97,7 +100,7 @@ class Choice:
 
 @dataclass(frozen=True)
 class Repeat:
-    """A body from `least` to `most` times; `most` is NO_BOUND where there is none."""
+    """A body that is repeated from `least` to `most` times; `most` is NO_BOUND if there is no bound."""
 
     least: int
     most: int
@@ -112,13 +115,13 @@ class Repeat:
 
     @property
     def endless(self) -> bool:
-        """Whether the count has no bound."""
+        """Whether the number of repetitions has no bound."""
         return self.most == NO_BOUND
 
 
 @dataclass(frozen=True)
 class Group:
-    """A group that captures; groups count from 1."""
+    """A capturing group; numbers of groups begin at 1."""
 
     number: int
     name: Optional[str]
@@ -136,6 +139,7 @@ Node = Union[Chars, Guard, Concat, Choice, Repeat, Group]
 
 
 def _joined(every: List[Facts], nullable: bool, first: int) -> Facts:
+    """The facts of a node with these children."""
     mask, size = 0, 1
     groups: List[Tuple[int, Optional[str]]] = []
     for it in every:
@@ -149,7 +153,7 @@ EMPTY = Concat(())
 
 
 def concat(items: Iterable[Node]) -> Node:
-    """Returns the items one after another, as few nodes as serve."""
+    """Returns the items one after another, without a `Concat` inside another or around a single item."""
     flat: List[Node] = []
     for it in items:
         flat += it.items if isinstance(it, Concat) else (it,)
@@ -157,7 +161,7 @@ def concat(items: Iterable[Node]) -> Node:
 
 
 def choice(branches: Iterable[Node]) -> Node:
-    """Returns a choice without the branches that stand twice; branches of one character each become one class."""
+    """Returns a choice in which each branch is there once; if all branches are single characters, returns their class."""
     flat: List[Node] = []
     for it in branches:
         for part in it.branches if isinstance(it, Choice) else (it,):
@@ -172,7 +176,7 @@ def choice(branches: Iterable[Node]) -> Node:
 
 
 def repeat(least: int, most: int, greedy: bool, body: Node) -> Node:
-    """Returns the body repeated; once is the body itself."""
+    """Returns the body repeated, the body itself if it is to come exactly once, or EMPTY if only that can match."""
     if body == EMPTY or most == 0 and not body.facts.groups:
         return EMPTY
     return body if least == most == 1 else Repeat(least, most, greedy, body)
@@ -200,7 +204,7 @@ def children(node: Node) -> Tuple[Node, ...]:
 
 
 def with_child(node: Node, at: int, new: Node) -> Node:
-    """Returns the node with another child at that position."""
+    """Returns the node with the child at that position replaced."""
     if isinstance(node, Concat):
         return concat([*node.items[:at], new, *node.items[at + 1:]])
     if isinstance(node, Choice):
@@ -213,14 +217,14 @@ def with_child(node: Node, at: int, new: Node) -> Node:
 
 
 def walk(node: Node) -> Iterator[Node]:
-    """Yields the node and all that is under it, the outer ones first."""
+    """Yields the node and all nodes under it, outer nodes before inner ones."""
     yield node
     for it in children(node):
         yield from walk(it)
 
 
 def mapped(node: Node, leaf: Callable[[Chars], Chars]) -> Node:
-    """Returns the same tree, spans kept, with each `Chars` replaced."""
+    """Returns the tree with each `Chars` replaced by what `leaf` makes of it; spans are kept."""
     if isinstance(node, Chars):
         return leaf(node)
     if isinstance(node, Concat):
@@ -235,7 +239,7 @@ def mapped(node: Node, leaf: Callable[[Chars], Chars]) -> Node:
 
 
 def normal(node: Node) -> Node:
-    """Returns the node without spans and texts, as few nodes as serve; two of the same meaning may still differ."""
+    """Returns the node without spans and texts, and simplified. Two nodes with the same meaning may still differ."""
     if isinstance(node, Chars):
         return Chars(node.mask)
     if isinstance(node, Concat):
@@ -250,7 +254,7 @@ def normal(node: Node) -> Node:
 
 
 def _spanned(node: Node, span: Span) -> Node:
-    """Returns the node with that span, and with no span and no text of characters under it."""
+    """Returns the node with that span, and without the spans and texts of the characters under it."""
     if isinstance(node, Chars):
         return Chars(node.mask, None, span)
     if isinstance(node, Guard):
@@ -268,8 +272,9 @@ def _spanned(node: Node, span: Span) -> Node:
 class Pattern:
     """A pattern that was read. `flags` are those of the call and of the front together; the body begins at `front`.
 
-    `gaps` is the layout before the part that begins at a place, or under -1 - place behind the last part, which ends there;
-    `inner_gaps` is that between what ends at a place and its quantifier.
+    `gaps` has the layout (spaces and comments) before a part under the part's position, and the layout after the last part
+    under -1 - p, where p is the position at which that part ends. `inner_gaps` has the layout between a part and its
+    quantifier under the position at which the part ends.
     """
 
     text: str
@@ -295,7 +300,10 @@ GUARDS = {"A": "start", "Z": "end", "b": "word", "B": "not-word"}
 
 
 class _Reader:
-    """Reads one text from left to right. `sets` gathers the sets of its characters, each once."""
+    """Reads one text from left to right, and raises Unreadable if it can't. `sets` collects its sets of characters, each once.
+
+    `scoped` says that the reader is inside a group with flags of its own, where nodes get no spans.
+    """
 
     def __init__(self, text: str, flags: int, is_bytes: bool) -> None:
         self.text = text
@@ -326,6 +334,7 @@ class _Reader:
     # The front
 
     def front(self) -> int:
+        """Reads the flags in front of a pattern, and returns where its body begins."""
         while True:
             found = re.compile(rf"\(\?([{INLINE}]+)\)").match(self.text, self.at)
             if not found:
@@ -338,6 +347,7 @@ class _Reader:
                 self.at = before
 
     def _with(self, flags: int, on: str, off: str) -> int:
+        """Returns the flags with those of some letters turned on and others turned off."""
         if "L" in on + off or set(on) & set(off) or "a" in on and "u" in on or self.is_bytes and "u" in on:
             raise self.fail("flags that don't go together")
         for it in on:
@@ -349,7 +359,7 @@ class _Reader:
         return int(flags)
 
     def skip(self) -> None:
-        """Passes comments, and under VERBOSE blanks."""
+        """Skips comments and, under VERBOSE, blanks."""
         while self.at < len(self.text):
             if self.take("(?#"):
                 self._past(")", True)
@@ -361,6 +371,7 @@ class _Reader:
                 return
 
     def _past(self, end: str, needed: bool) -> None:
+        """Skips all up to and with the next `end`, or to the end of the text if there is none and none is needed."""
         found = self.text.find(end, self.at)
         if found < 0 and needed:
             raise self.fail("a comment without an end")
@@ -369,6 +380,7 @@ class _Reader:
     # The body
 
     def body(self) -> Node:
+        """Reads branches up to a closing parenthesis or the end."""
         self.depth += 1
         if self.depth > MOST_DEPTH + 1:
             raise self.fail("groups too deep")
@@ -382,6 +394,7 @@ class _Reader:
         return Choice(tuple(branches), None if self.scoped else (start, self.at))
 
     def branch(self) -> Node:
+        """Reads one branch, and notes the layout between its parts."""
         items: List[Node] = []
         start = end = self.at
         while True:
@@ -403,6 +416,7 @@ class _Reader:
         return Concat(tuple(items), (start, end) if items and not self.scoped else None)
 
     def item(self) -> Node:
+        """Reads an atom with its quantifier, if it has one."""
         start = self.at
         atom = self.atom()
         before = self.at
@@ -423,6 +437,7 @@ class _Reader:
         return Repeat(least, most, greedy, atom, None if self.scoped else (start, self.at))
 
     def quantifier(self) -> Optional[Tuple[int, int]]:
+        """Reads a quantifier without a `?` after it, and returns its bounds; None if there is no quantifier here."""
         for sign, bounds in (("*", (0, NO_BOUND)), ("+", (1, NO_BOUND)), ("?", (0, 1))):
             if self.take(sign):
                 self.width = 1
@@ -439,12 +454,14 @@ class _Reader:
         return least, most
 
     def chars(self, ranges: Ranges, start: int) -> Chars:
+        """Returns the node of a set whose text began at `start` and ends here."""
         if ranges not in self.sets:
             self.sets.append(ranges)
         span = None if self.scoped else (start, self.at)
         return Chars(self.sets.index(ranges), None if self.scoped else self.text[start:self.at], span)
 
     def guard(self, kind: str, start: int, global_kind: str) -> Guard:
+        """Returns the node of a guard whose text began at `start`; its text is given flags of its own where it needs them."""
         ascii_only = bool(self.flags & re.ASCII) and kind in ("word", "not-word")
         text = self.text[start:self.at]
         if self.scoped:
@@ -476,11 +493,13 @@ class _Reader:
         return self.chars(self.cased(((ord(letter), ord(letter)),)), start)
 
     def cased(self, ranges: Ranges) -> Ranges:
+        """Returns the set; under IGNORECASE, with the codes that match one of its codes."""
         if not self.flags & re.IGNORECASE:
             return ranges
         return codes.up_to(codes.closed(ranges, bool(self.flags & re.ASCII)), self.top)
 
     def group(self, start: int) -> Node:
+        """Reads a group after its opening parenthesis, which is at `start`."""
         if not self.take("?"):
             return self.capture(start, None)
         if self.take("P<"):
@@ -500,6 +519,7 @@ class _Reader:
         return self.scope(start, found[1], found[2] or "")
 
     def scope(self, start: int, on: str, off: str) -> Node:
+        """Reads the body of a group with flags of its own. Only the outermost such group has a span."""
         kept, scoped, gaps = self.flags, self.scoped, self.gaps
         self.flags, self.scoped, self.gaps = self._with(self.flags, on, off), True, {}
         inner = self.body()
@@ -566,6 +586,7 @@ class _Reader:
         return int(found[0], 8)
 
     def class_(self) -> Ranges:
+        """Reads a class after its opening bracket."""
         negated = self.take("^")
         singles: List[Tuple[int, int]] = []
         sets: List[Ranges] = []
@@ -615,7 +636,7 @@ def _parsed(text: str, flags: int, is_bytes: bool) -> _Parsed:
 
 
 def set_of(text: str, flags: int, is_bytes: bool) -> Optional[Ranges]:
-    """Returns the set of a pattern that is one character or one class, else None."""
+    """Returns the set of characters if a pattern is one character or one class, otherwise None."""
     try:
         found = _parsed(text, flags, is_bytes)
     except Unreadable:
@@ -624,6 +645,7 @@ def set_of(text: str, flags: int, is_bytes: bool) -> Optional[Ranges]:
 
 
 def _alphabet(every: List[_Parsed], guards: bool) -> Alphabet:
+    """The alphabet of the sets of these patterns; with `guards`, of the word characters too."""
     reader = every[0].reader
     top, is_bytes, flags = reader.top, reader.is_bytes, reader.flags
     sets = [ranges for it in every for ranges in it.reader.sets]
@@ -633,6 +655,7 @@ def _alphabet(every: List[_Parsed], guards: bool) -> Alphabet:
 
 
 def _bound(parsed: _Parsed, alphabet: Alphabet) -> Pattern:
+    """The pattern with the numbers of sets replaced by masks."""
     reader = parsed.reader
     masks = [alphabet.mask(it) for it in reader.sets]
     tree = mapped(parsed.tree, lambda leaf: Chars(masks[leaf.mask], leaf.text, leaf.span))
@@ -640,12 +663,12 @@ def _bound(parsed: _Parsed, alphabet: Alphabet) -> Pattern:
 
 
 def read(pattern: Union[str, bytes], flags: int = 0) -> Pattern:
-    """Returns the tree of a pattern under the flags of its call. Raises Unreadable where relint would refuse it."""
+    """Reads a pattern under the flags of its call. Raises Unreadable if relint would refuse it."""
     return read_both([pattern], flags)[0]
 
 
 def read_both(patterns: List[Union[str, bytes]], flags: int = 0) -> List[Pattern]:
-    """Returns the trees of patterns over one alphabet, which has the classes that any of them tells apart."""
+    """Reads patterns over one alphabet, which tells apart all characters that one of them does. Raises Unreadable."""
     every = []
     for it in patterns:
         text = it if isinstance(it, str) else it.decode("latin-1")

@@ -1,6 +1,6 @@
-"""Tries two patterns on texts with the running Python's `re`, each match under a limit of time.
+"""Tries two patterns on texts with the running Python's `re`; each match has a limit of time.
 
-`tried` does it in a process of its own: this file is its script, so it imports nothing of the package.
+`tried` does this in a process of its own. That process runs this file as its script, so it imports nothing of the package.
 """
 from __future__ import annotations
 
@@ -20,14 +20,14 @@ MEMORY = 1_073_741_824
 
 
 class Trial(NamedTuple):
-    """A text on which the two didn't do the same, if any, and on how many texts nothing took too long before."""
+    """A text on which the two patterns differ, or None; and on how many texts they were compared within the time."""
 
     differs: Optional[str]
     compared: int
 
 
 class TookLong(Exception):
-    """A match passed its limit of time."""
+    """Raised if a match exceeds its limit of time."""
 
 
 def _stop(*_: Any) -> None:
@@ -35,7 +35,7 @@ def _stop(*_: Any) -> None:
 
 
 def _limited(call: Callable[[], Any]) -> Any:
-    """Calls under the limit of time, where the system has timers; None stands for too long."""
+    """Calls `call` under the limit of time, if the system has timers. Returns its result, or None if it took too long."""
     timer = getattr(signal, "setitimer", None)
     if timer is None:
         return call()
@@ -50,6 +50,7 @@ def _limited(call: Callable[[], Any]) -> Any:
 
 
 def _seen(match: Any, tier: str) -> Any:
+    """What has to be the same of a match in a tier: spans and groups (a), the span (b), or that there is one (c)."""
     if match is None:
         return []
     if tier == "a":
@@ -58,6 +59,7 @@ def _seen(match: Any, tier: str) -> Any:
 
 
 def _views(pattern: Any, text: Any, calls: Sequence[str], tier: str) -> List[Callable[[], Any]]:
+    """The calls of a pattern on a text whose results are compared."""
     views: Dict[str, Callable[[], Any]] = {
         "match": lambda: _seen(pattern.match(text), tier),
         "fullmatch": lambda: _seen(pattern.fullmatch(text), tier),
@@ -73,6 +75,7 @@ def _coded(text: str, is_bytes: bool) -> Any:
 
 
 def _run(asked: Dict[str, Any]) -> Dict[str, Any]:
+    """Does what `tried` asks, in its own process, and returns the values of the Trial."""
     left, right = (re.compile(_coded(it, asked["bytes"]), asked["flags"]) for it in asked["patterns"])
     compared = 0
     deadline = time.monotonic() + WHOLE_SECONDS
@@ -95,14 +98,17 @@ def _run(asked: Dict[str, Any]) -> Dict[str, Any]:
 
 def tried(left: Union[str, bytes], right: Union[str, bytes], flags: int, calls: Sequence[str], texts: Sequence[str], tier: str
           ) -> Trial:
-    """Tries both on the texts, and compares as much as the tier promises."""
+    """Tries both patterns on the texts, and compares what the tier promises to be the same.
+
+    If the process fails or takes too long, returns a Trial without a difference and with nothing compared.
+    """
     is_bytes = isinstance(left, bytes)
     patterns = [it.decode("latin-1") if isinstance(it, bytes) else it for it in (left, right)]
     if is_bytes:
         texts = [it for it in texts if all(ord(letter) < 256 for letter in it)]
     asked = {"patterns": patterns, "bytes": is_bytes, "flags": flags, "calls": list(calls), "texts": list(texts), "tier": tier}
     try:
-        # (nothing of the current folder or of the environment changes what the script does)
+        # (neither the current folder nor the environment can change what the script does)
         environment = {name: value for name, value in os.environ.items() if not name.startswith("PYTHON")}
         done = subprocess.run([sys.executable, "-I", "-B", __file__], input=json.dumps(asked).encode("ascii"), env=environment,
                               stdout=subprocess.PIPE, stderr=subprocess.PIPE, timeout=3 * WHOLE_SECONDS)
@@ -113,7 +119,7 @@ def tried(left: Union[str, bytes], right: Union[str, bytes], flags: int, calls: 
 
 
 def limit() -> None:
-    """Limits this process: bytes of memory, no core file, and its processor time."""
+    """Limits the memory and the processor time of this process, and keeps it from writing a core file."""
     resource.setrlimit(resource.RLIMIT_AS, (MEMORY, MEMORY))
     resource.setrlimit(resource.RLIMIT_CORE, (0, 0))
     most = int(3 * WHOLE_SECONDS)

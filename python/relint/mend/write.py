@@ -1,4 +1,4 @@
-"""Writes a tree as a pattern again: plainly, or with every part that didn't change as it was written."""
+"""Writes a tree as a pattern: plainly, or with each part that didn't change as it was written in the source."""
 from __future__ import annotations
 
 from typing import List, Optional, Set
@@ -8,7 +8,7 @@ from .tree import Chars, Choice, Concat, Group, Guard, NO_BOUND, Node, Pattern, 
 
 
 class Unwritable(Exception):
-    """A class of the tree has no text that was found."""
+    """Raised if no short enough text was found for a character class of the tree."""
 
 
 def quantifier(node: Repeat) -> str:
@@ -43,11 +43,14 @@ class _Writer:
     def __init__(self, alphabet: Alphabet, source: Optional[Pattern] = None) -> None:
         self.alphabet = alphabet
         self.source = source
-        # The places of the source whose layout has been written.
+        # The keys of the source's layout that has been written.
         self.used: Set[int] = set()
 
     def gap(self, at: int) -> str:
-        """Returns the layout at that place of the source, the first time that it is asked for."""
+        """Returns the layout that the `gaps` of the source hold under the key `at`, and marks it as written.
+
+        Returns "" if it has been written already, if there is none, or if there is no source.
+        """
         if self.source is None or at in self.used:
             return ""
         self.used.add(at)
@@ -70,13 +73,13 @@ class _Writer:
         return self.body(node.body) + self.inner_gap(node.body) + quantifier(node)
 
     def inner_gap(self, node: Node) -> str:
-        """Returns the layout that stood between a repeat's body and its quantifier."""
+        """Returns the layout between the repeat's body `node` and its quantifier in the source, or "" if there is none."""
         if self.source is None or node.span is None or not isinstance(node, (Chars, Group)):
             return ""
         return self.source.inner_gaps.get(node.span[1], "")
 
     def after(self, node: Node) -> str:
-        """Returns the layout that stood behind the last part of the node."""
+        """Returns the layout after the last part of the node in the source, the first time that it is asked for."""
         last: Node = node
         while isinstance(last, Concat) and last.span is None and last.items:
             last = last.items[-1]
@@ -92,17 +95,20 @@ class _Writer:
 
 
 def plain(tree: Node, pattern: Pattern) -> str:
-    """Returns the whole pattern with that tree as its body, without any layout. Raises Unwritable."""
+    """Returns the pattern's front followed by the tree, without any layout. Raises Unwritable."""
     return pattern.text[:pattern.front] + _Writer(pattern.alphabet).node(tree)
 
 
 def body(tree: Node, alphabet: Alphabet) -> str:
-    """Returns the tree's text without a front. Raises Unwritable."""
+    """Returns the text of the tree without a front and without any layout. Raises Unwritable."""
     return _Writer(alphabet).node(tree)
 
 
 def kept(tree: Node, pattern: Pattern) -> str:
-    """Returns the whole pattern with that tree as its body; what stood in the pattern before is written as there."""
+    """Returns the pattern's front followed by the tree; each part with a span is written as in the pattern, with its layout.
+
+    Raises Unwritable.
+    """
     writer = _Writer(pattern.alphabet, pattern)
     texts: List[str] = [pattern.text[:pattern.front], writer.node(tree), writer.after(tree)]
     return "".join(texts)

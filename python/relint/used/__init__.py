@@ -1,7 +1,7 @@
-"""How the code uses what it compiles: which methods, in which lines, and what it sees of what they find.
+"""Finds out how the code uses a compiled pattern: which methods it calls, in which lines, and what it sees of the results.
 
-`Follower` answers it for the patterns of a run, `classes` judges a pattern in the modes of its uses. docs/USED.md says what is
-followed and what isn't.
+`Follower` finds this out for the patterns of a run, and `classes` judges a pattern in the modes of its uses. docs/USED.md says
+what is followed and what isn't.
 """
 from __future__ import annotations
 

@@ -1,4 +1,4 @@
-"""The classes of patterns in the modes of their uses, judged by relint itself: one run for many patterns."""
+"""Has relint judge patterns in the modes of their uses, many patterns in one run."""
 from __future__ import annotations
 
 import os
@@ -12,17 +12,17 @@ from ..reports import Entry, Report, ReportError, Text, Verdict, read_report
 from ..verdicts import degree, is_finding, order
 from .sites import Used
 
-# (relint takes a source of up to 4 MiB)
+# The limits of one run; relint accepts a source of up to 4 MiB.
 MOST_IN_A_RUN, MOST_LETTERS = 1000, 3_000_000
-# What is said of a finding that no use reaches.
+# The words for a finding that no use reaches.
 UNUSED = "not as used here"
-# What a run may take; where it takes more, its patterns are asked of in smaller runs.
+# The seconds that a run may take. If it takes longer, its patterns are judged in smaller runs.
 SECONDS = 60
 
 
 @dataclass(frozen=True)
 class Asked:
-    """A pattern under the flags of its call, and the modes that it is to be judged in."""
+    """A pattern under the flags of its call, and the modes in which it is to be judged."""
 
     pattern: Text
     flags: int
@@ -31,14 +31,14 @@ class Asked:
 
 @dataclass(frozen=True)
 class AsUsed:
-    """How a pattern is used, and what relint says of it in each of these modes: an entry, or None where it refuses it."""
+    """How a pattern is used, and relint's entry for it in each mode of its uses, or None if relint has none."""
 
     used: Used
     entries: Dict[str, Optional[Entry]]
 
     @property
     def mode(self) -> str:
-        """The mode in which its class is worst; search before match, and match before fullmatch."""
+        """The mode in which the class is worst; of equal ones search, then match."""
         return max(sorted(self.entries, reverse=True), key=lambda it: order(self.verdict_in(it)))
 
     @property
@@ -48,11 +48,11 @@ class AsUsed:
 
     @property
     def verdict(self) -> Optional[Verdict]:
-        """The worst of its classes, or None where relint doesn't judge it."""
+        """The worst of the classes, or None if relint doesn't judge the pattern."""
         return self.verdict_in(self.mode)
 
     def verdict_in(self, mode: str) -> Optional[Verdict]:
-        """Returns the class in a mode."""
+        """Returns the class in a mode, or None if relint doesn't judge the pattern."""
         entry = self.entries[mode]
         return entry.verdict() if entry else None
 
@@ -65,7 +65,7 @@ class AsUsed:
         return order(self.verdict) <= degree(max_degree)
 
     def words(self, whole: Verdict, whole_mode: str) -> str:
-        """Returns both classes, as `degree 4 if searched; here only .match (line 1497): degree 2`."""
+        """Returns words for both classes, such as `degree 4 if searched; here only .match (line 1497): degree 2`."""
         here = self.verdict.words() if self.verdict else "not judged"
         return f"{whole.words()} if {PAST[whole_mode]}; here only {self.used.words()}: {here}"
 
@@ -74,9 +74,9 @@ PAST = {"search": "searched", "match": "matched at its start", "fullmatch": "mat
 
 
 def judged(asked: Sequence[Asked], max_pairs: Optional[int] = None) -> List[Dict[str, Optional[Entry]]]:
-    """Returns what relint says of each pattern in each of its modes; None where it says nothing. Raises ProgramError.
+    """Returns relint's entry for each pattern in each of its modes, or None if it has none. Raises ProgramError.
 
-    The path, the places and the call of an entry are those of the question.
+    The path, the places and the call of an entry are those in the source that relint was asked about, not in the user's.
     """
     lines = {(it.pattern, it.flags, mode): _line(it.pattern, it.flags, mode) for it in asked for mode in sorted(it.modes)}
     known: Dict[str, Optional[Entry]] = {}
@@ -86,7 +86,7 @@ def judged(asked: Sequence[Asked], max_pairs: Optional[int] = None) -> List[Dict
 
 
 def _parts(lines: Sequence[str]) -> Iterator[List[str]]:
-    """Yields the lines in parts that one run takes; a line that is longer than that is left out."""
+    """Yields the lines in parts, each for one run; a line that is too long for a run is left out."""
     part: List[str] = []
     room = MOST_LETTERS
     for line in lines:
@@ -105,18 +105,19 @@ def _line(pattern: Text, flags: int, mode: str) -> str:
 
 
 def _judged(lines: Sequence[str], max_pairs: Optional[int]) -> List[Optional[Entry]]:
-    """The entry of each line, by one run over a source that is made up of them; None where relint has none in time."""
+    """The entry for each line, or None if relint has none in time. If a run takes too long, the lines are judged in halves."""
     try:
         return _answered(lines, max_pairs)
     except program.TookLong:
         if len(lines) == 1:
             return [None]
-    # (one pattern that takes long must not hide the others)
+    # (one pattern that takes long mustn't hide the others)
     half = len(lines) // 2
     return _judged(lines[:half], max_pairs) + _judged(lines[half:], max_pairs)
 
 
 def _answered(lines: Sequence[str], max_pairs: Optional[int]) -> List[Optional[Entry]]:
+    """The entry for each line, by one run over a source made of them. Raises TookLong and ProgramError."""
     words = ["check", "--format", "json", "--report", "2"]
     if max_pairs is not None:
         words += ["--max-pairs", str(max_pairs)]

@@ -1,8 +1,9 @@
-"""Where one compiled pattern goes in its file, and what is done with it there.
+"""Follows one compiled pattern through its file, and finds out how it is used there.
 
-A pattern is followed as far as names tell: a method call on the spot; a name that is bound once at module, class or function
-level; an attribute of `self` or `cls` that is bound once in its class; a parameter's default. Each load has to be a method of
-the pattern, or the first argument of a function of `re`. Where the pattern goes anywhere else, nothing is said of it.
+A pattern is followed if a method is called on it at once; if it is bound to a name that a module, class or function binds only
+once, or to an attribute of `self` or `cls` that its class binds only once; or if it is the default of a parameter. Each load
+has to call a method of the pattern, or be the first argument of a function of `re`. If the pattern goes anywhere else, its
+uses aren't known.
 """
 from __future__ import annotations
 
@@ -23,7 +24,7 @@ PLACED = frozenset(("match", "fullmatch", "search", "findall", "finditer"))
 TELLS = frozenset(("pattern", "flags", "groups", "groupindex"))
 TRUTH, SPANS, GROUPS = "truth", "spans", "groups"
 _SEEN_ORDER = (TRUTH, SPANS, GROUPS)
-# With one of these a name can be read without being written.
+# Functions by which a name can be read without being written in the source.
 _READS_GLOBALS = frozenset(("globals", "vars", "locals", "exec", "eval", "execfile"))
 _READS_LOCALS = frozenset(("vars", "locals", "exec", "eval", "execfile"))
 _READS_ATTRIBUTES = frozenset(("vars", "exec", "eval", "execfile", "getmembers"))
@@ -32,20 +33,20 @@ _PLAIN_BASES = frozenset(name for name, it in vars(builtins).items() if isinstan
 
 
 def mode_of(call: Optional[str], compile_as: str) -> str:
-    """Returns the mode of a call: match, fullmatch or search; that of compile is `compile_as`."""
+    """Returns the mode of a call: match, fullmatch or search. The mode of `compile` is `compile_as`."""
     return compile_as if call == "compile" else MODES.get(call or "", "search")
 
 
 class Lost(Exception):
-    """The pattern goes where it can't be followed; the message says where."""
+    """Raised if the pattern goes where it can't be followed; the message says where."""
 
 
 @dataclass(frozen=True)
 class Use:
-    """One use: the method, the line where it is, and what the code sees of what it finds.
+    """One use of a pattern: the method, its line, and what the code sees of the result.
 
-    `position` says that the call may be given a position to begin or to end at. `sees` is "truth" where only whether there is
-    a match counts, "spans" where its groups don't, else "groups".
+    `position` says that the call may give a position to begin or to end at. `sees` is "truth" if the code sees only whether
+    there is a match, "spans" if it doesn't see groups, and otherwise "groups".
     """
 
     method: str
@@ -62,7 +63,7 @@ class Use:
 
 @dataclass(frozen=True)
 class Name:
-    """A name that the pattern has in a file, by which other files may reach it; `is_attribute` is that of a class."""
+    """A name that holds the pattern, and by which other files may reach it; with `is_attribute`, an attribute of a class."""
 
     name: str
     is_attribute: bool
@@ -70,7 +71,7 @@ class Name:
 
 @dataclass
 class Found:
-    """What was found so far: the uses, whether code reads the pattern's own text or groups, and the names to look for."""
+    """The uses found so far, whether code reads the pattern itself, and the names to look for in other files."""
 
     uses: List[Use] = field(default_factory=list)
     is_read: bool = False
@@ -78,7 +79,7 @@ class Found:
 
 
 class File:
-    """A source with what is asked of it. `path` is given to the uses that are found in it."""
+    """A source in which patterns are followed. The uses that are found in it have its `path`."""
 
     def __init__(self, data: bytes, path: Optional[str] = None) -> None:
         """Reads the source. Raises Unparsed."""
@@ -86,34 +87,34 @@ class File:
         self.names = Names(data)
 
     def call(self, line: int, column: int) -> Optional[ast.Call]:
-        """Returns the call whose pattern begins at the line and the column in bytes, both as `ast` counts them."""
+        """Returns the call whose pattern begins at a line and a column, counted as in `ast`; None if there is none."""
         return self.names.patterns.get((line, column))
 
     def direct(self, call: ast.Call, method: str) -> Found:
-        """Returns the use that a call of a function of `re` is, whose pattern is written in it."""
+        """Returns the one use of a pattern that is written in a call of a function of `re`: that call itself."""
         return Found([Use(method, call.lineno, False, _Follower(self, Found()).seen(call, method), self.path)])
 
     def compiled(self, call: ast.Call) -> Found:
-        """Returns the uses of what a call compiles, as far as this file shows them. Raises Lost."""
+        """Returns the uses of the pattern that a call compiles, in this file. Raises Lost."""
         found = Found()
         _Follower(self, found).value(call, True)
         return found
 
     def attribute(self, name: str) -> Found:
-        """Returns the uses of an attribute of that name, whatever it is an attribute of. Raises Lost."""
+        """Returns the uses of all attributes of that name, of any object. Raises Lost."""
         found = Found()
         _Follower(self, found).attributes(name)
         return found
 
     def name(self, scope: Scope, name: str) -> Found:
-        """Returns the uses of a name that an import bound in that scope. Raises Lost."""
+        """Returns the uses of a name that an import binds in that scope. Raises Lost."""
         found = Found()
         _Follower(self, found).name(scope, name)
         return found
 
 
 class _Follower:
-    """Follows one pattern through one file."""
+    """Follows one pattern through one file. Its methods raise Lost if the pattern can't be followed."""
 
     def __init__(self, file: File, found: Found) -> None:
         self.file = file
@@ -121,7 +122,7 @@ class _Follower:
         self.found = found
 
     def value(self, node: ast.AST, may_bind: bool = False) -> None:
-        """Follows the value of an expression to what takes it."""
+        """Follows the value of an expression to its use; with `may_bind`, also if it is bound to a name."""
         parent = self.names.parents.get(node)
         if isinstance(parent, ast.Attribute):
             self.member(parent)
@@ -142,7 +143,7 @@ class _Follower:
             raise Lost(f"it goes elsewhere in line {getattr(node, 'lineno', 0)}")
 
     def member(self, node: ast.Attribute) -> None:
-        """Follows an attribute of the pattern: a method is a use, and its text, flags or groups may be read. Raises Lost."""
+        """Follows an attribute of the pattern: a method is a use, and its text, flags or groups may be read."""
         if node.attr in TELLS and isinstance(node.ctx, ast.Load):
             self.found.is_read = True
             return
@@ -158,7 +159,7 @@ class _Follower:
         self.found.uses.append(Use(method, line, position, sees, self.file.path))
 
     def argument(self, node: ast.AST, parent: Union[ast.Call, ast.keyword]) -> None:
-        """Follows an argument: the pattern of a function of `re`, or elsewhere."""
+        """Follows an argument of a call, which has to be the pattern of a function of `re`."""
         call = parent if isinstance(parent, ast.Call) else self.names.parents.get(parent)
         is_pattern = isinstance(call, ast.Call) and (
             parent.arg == "pattern" if isinstance(parent, ast.keyword) else call.args[:1] == [node])
@@ -168,7 +169,7 @@ class _Follower:
         self.use(method, call.lineno, False, self.seen(call, method))
 
     def function_of_re(self, node: ast.AST) -> Optional[str]:
-        """Returns the name of the function of `re` that an expression is, or None where it isn't one for sure."""
+        """Returns the name of the function of `re` that an expression is, or None if it isn't certain that it is one."""
         if isinstance(node, ast.Attribute) and isinstance(node.value, ast.Name):
             bound = self.meant(node.value)
             is_re = all(isinstance(it, ast.alias) and it.name == "re" and isinstance(self.names.parents.get(it), ast.Import)
@@ -180,7 +181,7 @@ class _Follower:
         return found.pop() if len(found) == 1 else None
 
     def meant(self, node: ast.Name) -> List[ast.AST]:
-        """Returns all that binds the name where it is loaded."""
+        """Returns all nodes that bind a name where it is loaded."""
         return self.names.inside[node].home(node.id).bindings.get(node.id, [])
 
     def imported_from_re(self, node: ast.AST) -> Optional[str]:
@@ -216,7 +217,7 @@ class _Follower:
         return self.names.inside[target].around().home(target.id)
 
     def default(self, node: ast.AST, arguments: ast.arguments) -> None:
-        """Follows the parameter whose default it is."""
+        """Follows the parameter whose default the pattern is."""
         function = self.names.parents[arguments]
         if getattr(function, "decorator_list", ()):
             raise Lost(f"it is a default of a decorated function in line {getattr(node, 'lineno', 0)}")
@@ -229,7 +230,7 @@ class _Follower:
         self.name(home, name)
 
     def name(self, home: Scope, name: str) -> None:
-        """Follows all loads of a name of the module, or of a function."""
+        """Follows all loads of a name of a module or a function."""
         self.refuse_loaded(_READS_GLOBALS if home.kind == "module" else _READS_LOCALS)
         if home.kind == "module":
             self.refuse_string(name)
@@ -264,7 +265,7 @@ class _Follower:
         self.of_attribute(home, target.attr)
 
     def class_of(self, node: ast.Attribute) -> Optional[Scope]:
-        """Returns the scope of the class whose instance or self a method's first parameter is, where the node is of that."""
+        """Returns the scope of the class if the node is an attribute of the first parameter of a method, otherwise None."""
         scope: Optional[Scope] = self.names.inside[node]
         if not isinstance(node.value, ast.Name) or scope is None:
             return None
@@ -292,7 +293,7 @@ class _Follower:
                     self.attribute_load(it)
 
     def attributes(self, name: str) -> None:
-        """Follows what is loaded as an attribute of that name."""
+        """Follows all loads of attributes of that name."""
         self.refuse_string(name)
         self.refuse_open_getattr(name)
         self.refuse_open_attrgetter(name)
@@ -305,7 +306,7 @@ class _Follower:
             self.value(node)
 
     def refuse_foreign_bases(self, home: Scope, seen: Set[Scope]) -> None:
-        """Raises Lost where a base of the class isn't in the file: its methods may use what the class binds."""
+        """Raises Lost if a base of the class isn't in the file, since its methods may use what the class binds."""
         seen.add(home)
         for base in getattr(home.node, "bases", ()):
             above = self.class_named(base, home)
@@ -317,7 +318,7 @@ class _Follower:
             raise Lost("its class has a metaclass")
 
     def class_named(self, base: ast.AST, home: Scope) -> Optional[Scope]:
-        """Returns the scope of the class of this file that a base is; `home` for a plain builtin; else None."""
+        """Returns the scope of a base class in this file, `home` if the base is a builtin class, otherwise None."""
         if not isinstance(base, ast.Name):
             return None
         bound = self.meant(base)
@@ -326,7 +327,7 @@ class _Follower:
         one = bound[0] if len(bound) == 1 else None
         return self.names.scopes[one] if isinstance(one, ast.ClassDef) else None
 
-    # What lets a name be read without being written
+    # Ways to read a name without writing it
 
     def refuse_loaded(self, names: FrozenSet[str]) -> None:
         for it in names:
@@ -338,7 +339,7 @@ class _Follower:
             raise Lost(f"the name {name} is in a string, as for getattr or __all__")
 
     def refuse_open_modules(self) -> None:
-        """Raises Lost where the file may take itself from `sys.modules`."""
+        """Raises Lost if the file may get its own module from `sys.modules`."""
         nodes: List[ast.AST] = [*self.names.attributes.get("modules", ()), *self.names.loads(self.names.module, "modules")]
         for it in nodes:
             above = self.names.parents.get(it)
@@ -350,7 +351,7 @@ class _Follower:
                 raise Lost(f"sys.modules in line {getattr(it, 'lineno', 0)} may give the file itself")
 
     def refuse_open_attrgetter(self, name: str) -> None:
-        """Raises Lost where an `attrgetter` or `methodcaller` of the file may take that name."""
+        """Raises Lost if an `attrgetter` or `methodcaller` in the file may read an attribute of that name."""
         for it in ("attrgetter", "methodcaller"):
             nodes: List[ast.expr] = [*self.names.attributes.get(it, ()), *self.names.loads(self.names.module, it)]
             for node in nodes:
@@ -361,7 +362,7 @@ class _Follower:
                     raise Lost(f"{it} in line {node.lineno} may take {name}")
 
     def refuse_open_getattr(self, name: str) -> None:
-        """Raises Lost where a `getattr` of the file may take that name."""
+        """Raises Lost if a `getattr` in the file may read an attribute of that name."""
         for load in self.names.loads(self.names.module, "getattr"):
             call = self.names.parents.get(load)
             asked = call.args[1] if isinstance(call, ast.Call) and call.func is load and len(call.args) > 1 else None
@@ -371,7 +372,7 @@ class _Follower:
     # What the code sees of a match
 
     def seen(self, call: ast.Call, method: str) -> str:
-        """Returns what the code sees of the answer of a call of that method."""
+        """Returns what the code sees of the result of a call of that method."""
         if method in ("match", "fullmatch", "search"):
             return self.seen_of(call)
         if method in ("sub", "subn"):
@@ -379,7 +380,7 @@ class _Follower:
         return GROUPS
 
     def seen_of(self, node: ast.AST) -> str:
-        """Returns what is seen of a match that an expression gives."""
+        """Returns what the code sees of a match that is the value of an expression."""
         parent = self.names.parents.get(node)
         if self.is_tested(node) or isinstance(parent, ast.Expr):
             return TRUTH
@@ -406,7 +407,7 @@ class _Follower:
         return max(kinds, key=_SEEN_ORDER.index)
 
     def is_tested(self, node: ast.AST) -> bool:
-        """Returns whether only the truth of an expression, or whether it is None, is looked at."""
+        """Returns whether the code looks only at the truth of an expression, or at whether it is None."""
         parent = self.names.parents.get(node)
         while isinstance(parent, ast.BoolOp) and (isinstance(parent.op, ast.Or) or node is parent.values[-1]):
             node, parent = parent, self.names.parents.get(parent)
@@ -445,7 +446,7 @@ def _is_stored(node: ast.Attribute) -> bool:
 
 
 def _seen_by_member(node: ast.Attribute, parent: Optional[ast.AST]) -> str:
-    """What is seen by `m.attr`: spans alone where that asks for no group."""
+    """What the code sees by an attribute of a match: only spans if it asks for no group."""
     if node.attr not in ("start", "end", "span", "group") or not isinstance(parent, ast.Call) or parent.func is not node:
         return GROUPS
     whole = all(isinstance(it, ast.Constant) and it.value == 0 for it in parent.args) and not parent.keywords
@@ -453,7 +454,7 @@ def _seen_by_member(node: ast.Attribute, parent: Optional[ast.AST]) -> str:
 
 
 def _is_plain_replacement(call: ast.Call, is_function: bool) -> bool:
-    """Whether a `sub` puts in a literal without a backslash, which asks for no group."""
+    """Whether the replacement of a `sub` is a literal without a backslash, which asks for no group."""
     at = 1 if is_function else 0
     given = [it.value for it in call.keywords if it.arg == "repl"] or call.args[at:at + 1]
     value = given[0].value if len(given) == 1 and isinstance(given[0], ast.Constant) else None
@@ -463,7 +464,7 @@ def _is_plain_replacement(call: ast.Call, is_function: bool) -> bool:
 
 
 def _is_other(asked: ast.AST, name: str) -> bool:
-    """Whether an expression surely is another name: a literal, or one that begins with other letters."""
+    """Whether the value of an expression can't be `name`: it is another literal, or its text begins otherwise."""
     fronts = list(_fronts(asked))
     if isinstance(asked, ast.Constant) and isinstance(asked.value, str):
         return asked.value != name
@@ -471,7 +472,7 @@ def _is_other(asked: ast.AST, name: str) -> bool:
 
 
 def _fronts(asked: ast.AST) -> Iterator[str]:
-    """Yields the literal that the text of an expression begins with, where it has one."""
+    """Yields the literal with which the text of an expression begins, if it begins with one."""
     first: ast.AST = asked
     while isinstance(first, ast.BinOp) and isinstance(first.op, (ast.Add, ast.Mod)):
         first = first.left

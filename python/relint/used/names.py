@@ -1,6 +1,6 @@
-"""The names of one Python source: where each is bound, and which binding each load means.
+"""Finds the names of one Python source: where each is bound, and which binding each load means.
 
-The walk keeps a list of what is left, so a source may nest as deeply as `ast` takes it.
+The walk doesn't recurse, so a source may be nested as deeply as `ast` allows.
 """
 from __future__ import annotations
 
@@ -17,13 +17,13 @@ Scope = scoping.Scope[ast.AST]
 
 
 class Unparsed(Exception):
-    """The running Python can't parse the source."""
+    """Raised if the running Python can't parse a source."""
 
 
 def parsed(data: bytes) -> ast.Module:
-    """Returns the tree of a source in UTF-8. Raises Unparsed where the running Python can't read it.
+    """Returns the tree of a source in UTF-8. Raises Unparsed if the running Python can't read it.
 
-    A source that is large or deep is parsed in a process of its own first, so that a crash of the parser ends only that.
+    A source that is large or deep is first parsed in a process of its own, so that a crash of the parser ends only that one.
     """
     try:
         text = data.decode("utf-8-sig")
@@ -37,10 +37,10 @@ def parsed(data: bytes) -> ast.Module:
 
 
 class Names:
-    """What is bound and loaded in a source.
+    """The names that a source binds and loads.
 
-    `attributes` has the nodes `x.NAME` by NAME, and `strings` the texts of all string literals. A private name in a class is
-    there as it is written, and as Python has it: `__x` of a class C as `_C__x` too.
+    `attributes` has the nodes `x.NAME` by NAME, and `strings` has the texts of all string literals. A private name in a class
+    counts both as it is written and as Python changes it: `__x` in a class C also counts as `_C__x`.
     """
 
     def __init__(self, data: bytes) -> None:
@@ -67,13 +67,13 @@ class Names:
                 self._load(scope, name, load)
 
     def loads(self, scope: Scope, name: str) -> Sequence[ast.Name]:
-        """Returns the loads of the name that may mean the binding in that scope."""
+        """Returns the loads of a name that may mean the binding in that scope."""
         return self._loads.get((scope, name), ())
 
     # The walk
 
     def _take(self, node: ast.AST, scope: Scope) -> None:
-        """Notes what a node loads or binds in its scope, or the scope that it opens. Its children are taken later."""
+        """Notes what a node loads or binds in its scope, or the scope that it opens, and queues its children."""
         self.inside[node] = scope
         kind = scoping.kind_of(node)
         if kind is None:
@@ -96,6 +96,7 @@ class Names:
             self._left.append((part.node, inner if part.is_inside else scope))
 
     def _plain(self, node: ast.AST, scope: Scope) -> None:
+        """Notes what a node without a scope of its own loads or binds."""
         if isinstance(node, ast.Name):
             self._name(node, scope)
         elif isinstance(node, ast.Attribute):
@@ -117,7 +118,7 @@ class Names:
                 self._bound.append((scope, given, node))
 
     def _is_slot(self, node: ast.AST) -> bool:
-        """Whether a string is one of `__slots__`, which only says that there is such an attribute."""
+        """Whether a string is in `__slots__`, where it only says that there is such an attribute."""
         above = self.parents.get(node)
         if isinstance(above, (ast.Tuple, ast.List)):
             above = self.parents.get(above)
@@ -137,7 +138,7 @@ class Names:
         self._bound += [(scope, name, it) for name, it in scoping.imported(node)]
 
     def _as_seen(self, name: str, scope: Scope) -> Tuple[str, ...]:
-        """The name, and what it is inside a class where it is private."""
+        """The name and, if it is a private name in a class, the name to which Python changes it."""
         at: Optional[Scope] = scope
         while at is not None and name.startswith("__") and not name.endswith("__"):
             if isinstance(at.node, ast.ClassDef) and at.kind == "class":
@@ -149,5 +150,5 @@ class Names:
         home = scope.home(name)
         self._loads.setdefault((home, name), []).append(node)
         if home.kind == "class":
-            # (before it is bound in the class, the name means that of the module)
+            # (before the class binds it, the name means that of the module)
             self._loads.setdefault((self.module, name), []).append(node)

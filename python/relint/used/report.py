@@ -1,4 +1,4 @@
-"""The entries of a report as the code uses their patterns."""
+"""Judges the entries of a report in the modes in which the code uses their patterns."""
 from __future__ import annotations
 
 from dataclasses import replace
@@ -16,10 +16,10 @@ Behind = Callable[[Entry], Tuple[Optional[Source], Optional[Site]]]
 
 def as_used(entries: Sequence[Entry], compile_as: str, behind: Behind, run: Run, max_pairs: Optional[int] = None
             ) -> Dict[Entry, AsUsed]:
-    """Returns how the patterns of entries are used, and their classes so; entries whose pattern isn't followed are missing.
+    """Returns how the patterns of entries are used, and their classes under these uses, as far as the uses are known.
 
-    `compile_as` is the mode that the report has for compile; `behind` gives the source and the pattern of an entry; `run` has
-    the files of the run, those of the entries among them. Raises ProgramError where relint can't be asked.
+    `compile_as` is the mode in which the report judges `compile`. `behind` returns the source and the pattern of an entry.
+    `run` has the files of the run, with those of the entries. Raises ProgramError if relint can't be asked.
     """
     wanted: List[Tuple[Entry, Source, Site, str]] = []
     for entry in entries:
@@ -38,12 +38,12 @@ def as_used(entries: Sequence[Entry], compile_as: str, behind: Behind, run: Run,
 
 
 def _at(entry: Entry, other: Optional[Entry]) -> Optional[Entry]:
-    """What relint says of a pattern in another mode, at the place of its entry; places inside the pattern are left out."""
+    """The entry for a pattern in another mode, moved to the place of `entry` and without places inside the pattern."""
     if other is None:
         return None
     return replace(other, path=entry.path, place=entry.place, call=entry.call, fault=None, dropped=(), merged=(), passed=())
 
 
 def _others(entry: Entry, used: Used, compile_as: str) -> FrozenSet[str]:
-    """The modes of the uses, without that in which the entry is judged already."""
+    """The modes of the uses, except the one in which the entry is judged already."""
     return used.modes() - {mode_of(entry.call, compile_as)}

@@ -1,4 +1,4 @@
-"""The files of one run, and which of them import which: so a public name of one file is followed into the others.
+"""The files of one run, and which of them import which, so that a public name of one file can be followed into the others.
 
 Only these files are looked at. What code outside of the run does with a public name isn't known.
 """
@@ -20,14 +20,14 @@ Parts = Tuple[str, ...]
 
 @dataclass(frozen=True)
 class _Binding:
-    """What an import statement binds: the name as it is in the file, and the scope where it is."""
+    """A name that an import statement binds, and the scope in which it binds it."""
 
     scope: Scope
     name: str
 
 
 def module_parts(path: str) -> Parts:
-    """Returns the parts of the dotted name by which a file can be imported, folders above its top package included."""
+    """Returns the parts of the dotted name of a file as a module, with all folders above its top package in front."""
     parts = [it for it in os.path.abspath(path).split(os.sep) if it]
     stem = parts[-1][:-3] if parts[-1].endswith(".py") else parts[-1]
     return tuple(parts[:-1] if stem == "__init__" else [*parts[:-1], stem])
@@ -38,7 +38,7 @@ def _ends_with(parts: Parts, end: Parts) -> bool:
 
 
 class Run:
-    """The files of a run. `read` gives the bytes of a path, or None where it can't be read; files are parsed when needed."""
+    """The files of a run, which are parsed when they are needed. `read` returns the bytes of a path, or None."""
 
     def __init__(self, paths: Iterable[str], read: Callable[[str], Optional[bytes]]) -> None:
         self._paths = list(dict.fromkeys(paths))
@@ -47,7 +47,7 @@ class Run:
         self._mentions: Dict[str, List[str]] = {}
 
     def file(self, path: str) -> Optional[File]:
-        """Returns a file of the run as it was parsed, or None where that can't be done."""
+        """Returns a parsed file of the run, or None if it can't be read or parsed."""
         if path not in self._files:
             if len(self._files) >= MOST_KEPT:
                 del self._files[next(iter(self._files))]
@@ -74,7 +74,7 @@ class Run:
                     coded[it].append(path)
 
     def elsewhere(self, path: str, names: Sequence[Name]) -> Found:
-        """Returns the uses of names of a file in the files that import it. Raises Lost."""
+        """Returns the uses of names of a file in the files that import it, directly or by others. Raises Lost."""
         found = Found()
         seen: Set[Tuple[str, Name]] = set()
         left = [(path, it) for it in names]
@@ -90,6 +90,7 @@ class Run:
         return found
 
     def _in_importers(self, home: str, name: Name) -> Iterator[Tuple[str, Found]]:
+        """Yields the uses of a name of the file `home` in each file that imports it directly. Raises Lost."""
         module = module_parts(home)
         for path in self._candidates(home, name.name, module[-1]):
             file = self.file(path)
@@ -107,7 +108,7 @@ class Run:
                     yield path, file.name(bound.scope, bound.name)
 
     def _candidates(self, home: str, name: str, stem: str) -> Sequence[str]:
-        """Returns the files that mention both the name and the module, without which none can reach it."""
+        """Returns the files that mention both the name and the module; no other file can reach it."""
         self.look_for([name, stem])
         if os.path.basename(home) == "__init__.py":
             # (`from . import X` doesn't mention the package)
@@ -117,7 +118,7 @@ class Run:
 
 
 def _reached(file: File, own: Parts, is_package: bool, module: Parts) -> Iterator[Union[ast.Import, ast.ImportFrom]]:
-    """Yields the import statements of a file by which it may reach a module."""
+    """Yields the import statements by which a file may reach a module."""
     for node in file.names.imports:
         base = _base(node, own, is_package)
         if isinstance(node, ast.ImportFrom) and _is_module(base, module):
@@ -127,17 +128,17 @@ def _reached(file: File, own: Parts, is_package: bool, module: Parts) -> Iterato
 
 
 def _is_module(parts: Parts, module: Parts) -> bool:
-    """Whether a dotted name may be that of the module; either may have more folders in front."""
+    """Whether a dotted name may be the module's; one of the two may have more folders in front."""
     return _ends_with(module, parts) or _ends_with(parts, module)
 
 
 def _is_around(parts: Parts, module: Parts) -> bool:
-    """Whether a dotted name may be that of the module or of a package around it, through which it is reached."""
+    """Whether a dotted name may be that of the module, or of a package around it through which it can be reached."""
     return _ends_with(parts, module) or any(_ends_with(module[:count], parts) for count in range(len(module), 0, -1))
 
 
 def _base(node: Union[ast.Import, ast.ImportFrom], own: Parts, is_package: bool) -> Parts:
-    """Returns the dotted name that an import statement imports from, none for `import`."""
+    """The parts of the dotted name that a `from` statement imports from; no parts for `import`."""
     if isinstance(node, ast.Import):
         return ()
     base: Parts = tuple(node.module.split(".")) if node.module else ()
@@ -148,7 +149,7 @@ def _base(node: Union[ast.Import, ast.ImportFrom], own: Parts, is_package: bool)
 
 
 def _bound_by(file: File, node: Union[ast.Import, ast.ImportFrom], name: str) -> Iterator[_Binding]:
-    """Yields what the statement binds the name of another file to."""
+    """Yields the names that an import statement binds to the name `name` of another file."""
     if not isinstance(node, ast.ImportFrom):
         return
     scope = file.names.inside[node]

@@ -1,4 +1,4 @@
-"""The uses of the patterns that a report names."""
+"""Finds the uses of the patterns that a report names."""
 from __future__ import annotations
 
 from dataclasses import dataclass
@@ -13,10 +13,10 @@ from .run import Run, module_parts
 
 @dataclass(frozen=True)
 class Used:
-    """All uses of a pattern in the order of their lines, at least one.
+    """All uses of a pattern, at least one, sorted by file and line.
 
-    `is_read` says that the code reads the pattern's text, its flags or its groups; `is_public` that the pattern has a name of
-    the module without `_` in front, so that files outside of the run may use it too.
+    `is_read` says that the code reads the pattern's text, its flags or its groups. `is_public` says that a name of the module
+    without `_` in front holds the pattern, so that files outside of the run may use it too.
     """
 
     uses: Tuple[Use, ...]
@@ -28,7 +28,7 @@ class Used:
         return frozenset(it.mode for it in self.uses)
 
     def words(self) -> str:
-        """Returns the methods with their lines, as `.match (line 12)`; at most three of them are named."""
+        """Returns words for the methods and their lines, such as `.match (line 12)`, with at most three lines for each."""
         lines: Dict[str, List[str]] = {}
         for it in self.uses:
             where = f"{it.path}:{it.line}" if it.path else f"{it.line}"
@@ -50,9 +50,9 @@ class Follower:
         self._run = run
 
     def used(self, sites: Iterable[Tuple[str, Source, Place, str]]) -> List[Union[Used, Lost]]:
-        """Returns for each pattern, by path, source, place and call, how it is used, or where it is lost.
+        """Returns for each pattern how it is used, or where it is lost.
 
-        The place is that of the pattern's first literal, as a report has it.
+        A pattern is given by its path, its source, the place of its first literal as in a report, and its call.
         """
         local = [self._local(*it) for it in sites]
         named = [(path, it) for path, it in local if isinstance(it, Found) and it.names]
@@ -66,6 +66,7 @@ class Follower:
         return path, found_at(file, source, place, call)
 
     def _whole(self, path: str, local: Union[Found, Lost]) -> Union[Used, Lost]:
+        """The uses of a pattern in all files, given those in its own file."""
         if isinstance(local, Lost):
             return local
         try:
@@ -81,12 +82,12 @@ class Follower:
 
 
 def _here(use: Use, path: str) -> Use:
-    """The use without its path where that is the pattern's own."""
+    """The use, without its path if it is in the pattern's own file."""
     return Use(use.method, use.line, use.position, use.sees) if use.path == path else use
 
 
 def found_at(file: File, source: Source, place: Place, call: str) -> Union[Found, Lost]:
-    """Returns the uses in its file of the pattern at a place, or where it is lost."""
+    """Returns the uses of the pattern at a place in its own file, or where it is lost."""
     column = len(source.line(place.line)[:place.column - 1].encode("utf-8", "surrogatepass"))
     node = file.call(place.line, column)
     if node is None:
@@ -100,7 +101,7 @@ def found_at(file: File, source: Source, place: Place, call: str) -> Union[Found
 
 
 def used_in(text: Union[str, bytes], entry: Entry) -> Union[Used, Lost]:
-    """Returns how one source alone uses the pattern of an entry."""
+    """Returns how a single source uses the pattern of an entry, or where it is lost."""
     data = text.encode("utf-8") if isinstance(text, str) else text
     source = Source(data)
     run = Run([entry.path], lambda path: data)

@@ -1,6 +1,6 @@
-"""Run by relint-wide in a process of its own: looks into one file after the other.
+"""Looks into one file after the other; relint-wide runs this in processes of their own.
 
-The first line of standard input says what for; each line after it names a file, and gets one line as an answer.
+The first line of standard input has the settings. Each line after it names a file, and is answered by one line.
 """
 from __future__ import annotations
 
@@ -17,7 +17,7 @@ DEEPEST = 20_000
 
 
 def limit(memory: int) -> None:
-    """Limits the memory of the process, and has it leave no core file."""
+    """Limits the memory of this process, and keeps it from writing a core file."""
     resource.setrlimit(resource.RLIMIT_AS, (memory, memory))
     resource.setrlimit(resource.RLIMIT_CORE, (0, 0))
 
@@ -42,7 +42,7 @@ def work() -> None:
 
 
 def main() -> None:
-    """Does the work with room for deep sources."""
+    """Does the work in a thread with a large stack, so that deep sources can be read."""
     sys.setrecursionlimit(DEEPEST)
     threading.stack_size(STACK)
     thread = threading.Thread(target=work)

@@ -1,4 +1,4 @@
-"""relint-wide: what relint-show says of some paths, and below it what was found beyond the literals that relint judges."""
+"""relint-wide: shows what relint-show shows, and below it what was found beyond the literals that relint judges."""
 from __future__ import annotations
 
 import argparse
@@ -23,7 +23,7 @@ JOBS = "how many runs, files and trials go on at a time (as many as processors)"
 
 
 def parser() -> Parser:
-    """Returns the reader of the tool's words."""
+    """Returns the parser of the tool's command line."""
     found = Parser(NAME, "Shows what relint-show shows, and below it what was found beyond the literals that relint judges.",
                    "The exit status is 1 if there is a finding of any kind, otherwise 0 or 2 to 6 for errors.")
     gather.add_options(found, JOBS)
@@ -36,7 +36,7 @@ def parser() -> Parser:
 
 
 def add_limits(found: argparse.ArgumentParser) -> None:
-    """Adds the options on trials."""
+    """Adds the options for trials."""
     found.add_argument("--no-trials", action="store_true", help="don't try patterns that relint doesn't analyse")
     found.add_argument("--seconds", type=_seconds, default=1.0, metavar="S",
                        help="the processor time that a match has to pass to be shown as seen to hang (1)")
@@ -57,7 +57,7 @@ def _seconds(text: str) -> float:
 
 
 def limits_of(given: argparse.Namespace) -> Optional[Limits]:
-    """Returns the limits of a trial, or None where nothing is to be tried."""
+    """Returns the limits of each trial, or None if nothing is to be tried."""
     return None if given.no_trials else Limits(given.seconds, given.longest, given.memory * 1_000_000)
 
 
@@ -71,7 +71,7 @@ def added_takers(file: str) -> Tuple[List[Mapping[str, Any]], List[str]]:
 
 
 def summary(counts: Counts, found: Looked) -> Iterator[str]:
-    """Gives the lines of counts."""
+    """Yields the lines of the summary: the counts, the reasons why patterns aren't known, and what wasn't read."""
     kinds = [it.entry.beyond.kind for it in found.reached if it.entry.beyond is not None]
     yield (f"beyond: {plain.counted(kinds.count(ELSEWHERE), 'finding')} judged elsewhere, {kinds.count(HANG):,} seen to hang "
            f"(of {plain.counted(counts.tried, 'pattern')} tried)")
@@ -90,7 +90,7 @@ def summary(counts: Counts, found: Looked) -> Iterator[str]:
 
 
 def _finder(given: argparse.Namespace) -> WideFinder:
-    """What looks beyond literals, with the rows of the configuration and those of --takers; wrong rows are named."""
+    """The finder, with the rows of the configuration and of --takers. Wrong rows are named on standard error."""
     rows, wrong = rows_of(gather.found_config(given))
     if given.takers is not None:
         more, lines = added_takers(given.takers)
@@ -101,7 +101,7 @@ def _finder(given: argparse.Namespace) -> WideFinder:
 
 
 def _lines(given: argparse.Namespace) -> Tuple[Iterator[str], int]:
-    """What is written for the words, and the exit status."""
+    """The lines to write for the command line, and the exit status. Raises GatherError and ProgramError."""
     if gather.reads_input(given, gather.found_config(given)):
         raise gather.GatherError("name a path: files and folders to look at")
     finder = _finder(given)
@@ -126,7 +126,7 @@ def _work(given: argparse.Namespace) -> int:
 
 
 def main(words: Optional[Sequence[str]] = None) -> int:
-    """Runs the tool with the words of the command line, and answers the exit status."""
+    """Runs the tool with the words of the command line, and returns the exit status."""
     given = gather.parsed(parser(), words)
     return gather.ended(NAME, lambda: _work(given))
 

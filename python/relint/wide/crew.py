@@ -1,6 +1,6 @@
-"""Children that each do one piece of work after the other, under limits of time and memory.
+"""Child processes that do pieces of work one after the other, with limits on time and memory.
 
-A child that dies or takes too long is replaced, and its piece gets an answer that says so: no piece harms the others.
+A child that dies or takes too long is replaced, and the answer to its piece says so. No piece harms the others.
 """
 from __future__ import annotations
 
@@ -20,14 +20,14 @@ READ_AT_A_TIME = 1 << 16
 LARGEST_ANSWER = 1 << 28
 DIED = "the process that read it was ended by signal {}"
 LATE = "it took more than {:g} seconds of processor time"
-# A piece that takes so many times its processor time by the clock is ended too.
+# A piece is also ended after PATIENCE times its seconds of processor time have passed by the clock.
 PATIENCE = 20
 
 
 class Crew:
-    """Some children with the same task. `begin` is what each is told first.
+    """A number of children with the same task. `begin` is sent to each child first.
 
-    `seconds` of processor time and `memory` in bytes are what one piece may take.
+    `seconds` is the processor time that one piece may take, and `memory` is how many bytes a child may use.
     """
 
     def __init__(self, begin: Dict[str, Any], jobs: int, seconds: float, memory: int) -> None:
@@ -35,7 +35,7 @@ class Crew:
         self._jobs, self._seconds = jobs, seconds
 
     def answers(self, pieces: Sequence[Any]) -> Iterator[Tuple[Any, str]]:
-        """Yields for each piece, in order, its answer, or None with the reason why there is none."""
+        """Yields the answer to each piece, in order, with ""; or None with the reason why there is no answer."""
         todo: "queue.SimpleQueue[Tuple[int, Any]]" = queue.SimpleQueue()
         done: "queue.SimpleQueue[Tuple[int, Any, str]]" = queue.SimpleQueue()
         for it in enumerate(pieces):
@@ -50,6 +50,7 @@ class Crew:
             yield kept.pop(number)
 
     def _work(self, todo: Any, done: Any) -> None:
+        """Has a child do pieces from `todo` until none is left, and puts the answers in `done`. Each thread runs this."""
         child: Optional[_Child] = None
         while True:
             try:
@@ -70,7 +71,7 @@ class Crew:
 
 
 class _Child:
-    """One child."""
+    """One child process, which gets one line for each piece and answers each by one line."""
 
     def __init__(self, begin: bytes) -> None:
         words = [sys.executable, "-I", CHILD]
@@ -84,7 +85,7 @@ class _Child:
         self._process.stdin.flush()
 
     def ask(self, piece: Any, seconds: float) -> Tuple[Any, str]:
-        """Returns the answer to a piece, or None and why there is none."""
+        """Returns the answer to a piece and "", or None and the reason why there is no answer."""
         try:
             self._tell(json.dumps(piece).encode("ascii") + b"\n")
             line = self._line(seconds * PATIENCE)
@@ -101,7 +102,7 @@ class _Child:
             return None, DIED.format(-status) if status < 0 else f"the process that read it ended with status {status}"
 
     def _line(self, seconds: float) -> Optional[bytes]:
-        """The next line of the child; None where none came in time, and b"" where the child ended."""
+        """The next line of the child; None if nothing comes in time; b"" if the child ended or the line is too long."""
         assert self._process.stdout is not None
         parts: List[bytes] = [self._rest]
         size = 0
@@ -119,11 +120,11 @@ class _Child:
         return b"".join(parts)
 
     def end(self) -> None:
-        """Ends the child."""
+        """Kills the child."""
         self._process.kill()
         self._process.communicate()
 
 
 def in_order(crew: Crew, pieces: Iterable[Any]) -> List[Tuple[Any, str]]:
-    """Returns the answers to all pieces."""
+    """Returns the answers to all pieces, in order."""
     return list(crew.answers(list(pieces)))

@@ -1,4 +1,4 @@
-"""Finds in one source what is given as a pattern, to `re` and to what the table of takers names."""
+"""Finds the expressions of a source that are given as patterns, to `re` or to a function or class in the table of takers."""
 from __future__ import annotations
 
 import ast
@@ -14,16 +14,18 @@ from .modules import Module
 from .scopes import Binding, Scope, last_name
 from .takers import Taker
 
-# Names that PLY reads beside its rules.
+# Names with the prefix of a rule that PLY doesn't read as rules.
 NO_RULES = ("t_ignore", "t_error", "t_eof", "t_literals")
 
 
 @dataclass(frozen=True)
 class Found:
-    """What a source gives as a pattern. `pattern` and `flags` are None where they can't be told; `why` names the reason.
+    """An expression that a source gives as a pattern.
 
-    `call` is the function of `re` that has the same mode, and `taker` what really takes the pattern. `is_literal` says that
-    relint reads the pattern itself. `needs` are the names that no other file may bind. `cell` is that of a notebook.
+    `pattern` and `flags` are None if they aren't known; `why` names the reason. `call` is the function of `re` that has the
+    same mode, and `taker` is what really takes the pattern. `is_literal` says that the expression is a plain literal, which
+    relint can read itself. `needs` are the names that no other file may bind, as in `Known`. `cell` is the number of the cell
+    in a notebook.
     """
 
     path: str
@@ -43,7 +45,7 @@ class Found:
 
 
 class Finder:
-    """Finds the patterns of sources, one module after the other."""
+    """Finds the patterns of modules, one module after the other."""
 
     def __init__(self, folder: Folder, takers: Sequence[Taker]) -> None:
         self._folder = folder
@@ -57,7 +59,7 @@ class Finder:
                 self._methods.setdefault(taker.method.rpartition(".")[2], []).append(taker)
 
     def find(self, module: Module) -> List[Found]:
-        """Returns what a module gives as patterns, by place."""
+        """Returns what a module gives as patterns, sorted by place."""
         self._folder.begin()
         one = _One(module, self._folder)
         found = [it for call, scope in module.scopes.calls for it in self._of_call(one, call, scope)]
@@ -67,6 +69,7 @@ class Finder:
         return sorted(found, key=lambda it: (it.start.line, it.start.column))
 
     def _of_call(self, one: "_One", call: ast.Call, scope: Scope) -> Iterator[Found]:
+        """Yields the patterns of a call, if it is a call of `re` or of a taker."""
         name = call.func.attr if isinstance(call.func, ast.Attribute) else ""
         for taker in self._methods.get(name, ()):
             if one.imports(taker.needs) and one.is_method(call.func, taker.method) and one.fits(taker, call, scope):
@@ -83,18 +86,18 @@ class Finder:
 
 
 class _One:
-    """One module, with what is asked of it."""
+    """Answers the questions about one module."""
 
     def __init__(self, module: Module, folder: Folder) -> None:
         self.module, self.folder = module, folder
         self.lines = LINE_END.split(module.text)
 
     def imports(self, name: str) -> bool:
-        """Whether the module imports another one, or a part of it, anywhere; "" is always imported."""
+        """Returns whether the module imports another one, or a part of it, anywhere; True for ""."""
         return not name or name in self.module.scopes.imported
 
     def is_method(self, function: ast.expr, method: str) -> bool:
-        """Whether a call is of a method on an object, with the attributes before it."""
+        """Returns whether a called expression is an object followed by the dotted names of `method`."""
         names = method.split(".")
         for name in reversed(names):
             if not isinstance(function, ast.Attribute) or function.attr != name:
@@ -103,7 +106,7 @@ class _One:
         return len(names) > 1 or not isinstance(function, ast.Name) or function.id != "re"
 
     def fits(self, taker: Taker, call: ast.Call, scope: Scope) -> bool:
-        """Whether the call has the arguments on which it depends whether this is a pattern."""
+        """Returns whether a call has the keyword arguments that the taker demands, and none that it excludes."""
         given = {it.arg: it.value for it in call.keywords if it.arg}
         for name, value in taker.unless:
             if name in given and self._constant(given[name], scope) in (value, None):
@@ -111,26 +114,27 @@ class _One:
         return all(name in given and self._constant(given[name], scope) == value for name, value in taker.when)
 
     def _constant(self, node: ast.AST, scope: Scope) -> Any:
+        """The value of an expression, or None if it isn't known."""
         try:
             return self.folder.fold(node, scope, self.module).value
         except NotKnown:
             return None
 
     def place(self, line: int, column: int) -> Place:
-        """Returns the place of a position of `ast`, whose columns count bytes."""
+        """Returns the place of a position in `ast`, where columns count bytes and begin at 0."""
         text = self.lines[line - 1] if line <= len(self.lines) else ""
         if text.isascii():
             return Place(line, column + 1)
         return Place(line, len(text.encode("utf-8", "surrogatepass")[:column].decode("utf-8", "replace")) + 1)
 
     def of_re(self, name: str, call: ast.Call, scope: Scope) -> List[Found]:
-        """What a call of a function of `re` gives as its pattern."""
+        """Returns what a call of a function of `re` gives as its pattern: one, or one for each item of a loop."""
         node = _argument(call, 0, ("pattern",))
         flags = _argument(call, FLAGS_AT[name], ("flags",))
         return self._found(node or call, scope, name, "re." + name, flags, node is None)
 
     def of_taker(self, taker: Taker, call: ast.Call, scope: Scope) -> Iterator[Found]:
-        """What a call gives as a pattern, or as several."""
+        """Yields what a call of a taker gives as patterns."""
         node = _argument(call, taker.pattern, taker.keywords)
         if node is None:
             return
@@ -144,7 +148,11 @@ class _One:
         self, node: ast.expr, scope: Scope, call: str, name: str, flags: Optional[ast.AST], is_missing: bool,
         taker: Optional[Taker] = None,
     ) -> List[Found]:
-        """What is known of an expression that is given as a pattern: one for each item of the loops that it is in."""
+        """What is known of an expression that is given as a pattern: one or, in loops, one for each different pattern.
+
+        If the pattern isn't known, the only one has the reason in `why`. `is_missing` says that the call has no argument for
+        the pattern.
+        """
         first = _first_literal(node)
         start = self.place(first.lineno, first.col_offset)
         end = self.place(node.end_lineno or node.lineno, node.end_col_offset or node.col_offset)
@@ -166,6 +174,7 @@ class _One:
         return list({(it.pattern, it.flags): it for it in reversed(found)}.values())[::-1]
 
     def _flags(self, node: Optional[ast.AST], scope: Scope, taker: Optional[Taker]) -> Tuple[int, List[Known]]:
+        """The flags that an expression gives, and what is known of it. Raises NotKnown."""
         if node is None:
             return (taker.always if taker else 0), []
         try:
@@ -181,7 +190,7 @@ class _One:
         return int(known.value), [known]
 
     def of_attribute(self, taker: Taker) -> Iterator[Found]:
-        """The patterns that attributes of classes hold, or names of the module by their form."""
+        """Yields the patterns held by names that fit the taker: in classes and, if the taker names no class, in the module."""
         for node, _ in self.module.scopes.classes:
             inside = self.module.scopes.inner[node]
             if taker.classes and not _is_base(node, taker.classes):
@@ -191,6 +200,7 @@ class _One:
             yield from self._of_body(taker, self.module.scopes.module)
 
     def _of_body(self, taker: Taker, inside: Scope) -> Iterator[Found]:
+        """Yields the patterns held by the names of one scope that fit the taker."""
         for name, bindings in inside.bindings.items():
             if not fnmatch.fnmatchcase(name, taker.attribute) or len(bindings) != 1 or name in NO_RULES:
                 continue
@@ -203,6 +213,7 @@ class _One:
 
 
 def _argument(call: ast.Call, position: int, names: Sequence[str]) -> Optional[ast.expr]:
+    """The argument of a call with one of the names or at the position; None if it isn't there or a star hides it."""
     for it in call.keywords:
         if it.arg and it.arg in names:
             return it.value
@@ -212,7 +223,7 @@ def _argument(call: ast.Call, position: int, names: Sequence[str]) -> Optional[a
 
 
 def _first_literal(node: ast.expr) -> ast.expr:
-    """The literal with which an expression begins, or the expression."""
+    """The literal with which an expression begins, or the expression itself if it begins with no literal."""
     first = node
     while isinstance(first, ast.BinOp):
         first = first.left
@@ -227,7 +238,7 @@ def _is_base(node: ast.ClassDef, names: Sequence[str]) -> bool:
 
 
 def _held_by(shape: str, binding: Binding) -> Iterator[ast.expr]:
-    """The expressions of patterns that a binding holds, by the form that the table names."""
+    """Yields the expressions of the patterns that a binding holds, as the shape in the table says."""
     node: Any = binding.node
     if shape == "rules" and binding.kind == "function":
         yield from _rule_of(node)
@@ -243,7 +254,7 @@ def _held_by(shape: str, binding: Binding) -> Iterator[ast.expr]:
 
 
 def _rule_of(node: Any) -> Iterator[ast.expr]:
-    """The pattern of a rule of PLY that is a function: that of its decorator TOKEN, or its docstring."""
+    """Yields the pattern of a PLY rule that is a function: the argument of its decorator TOKEN, or else its docstring."""
     for it in getattr(node, "decorator_list", []):
         if isinstance(it, ast.Call) and last_name(it) == "TOKEN" and it.args:
             yield it.args[0]
@@ -254,6 +265,7 @@ def _rule_of(node: Any) -> Iterator[ast.expr]:
 
 
 def _filled(empty: Found, text: Text, flags: int, parts: Sequence[Known], taker: Optional[Taker]) -> Found:
+    """`empty` with a pattern and flags, and with the names, notes and needs of the parts that they come from."""
     held = tuple(dict.fromkeys(it for part in parts for it in part.held))
     notes = [it for part in parts for it in part.notes] + ([taker.note] if taker and taker.note else [])
     needs = sorted({it for part in parts for it in part.needs if it[1] and it[0]})

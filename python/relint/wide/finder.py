@@ -1,4 +1,4 @@
-"""What looks beyond the literals that relint judges, for every tool that makes a report of its own."""
+"""Finds what relint-wide finds, for every tool that makes a report by running relint."""
 from __future__ import annotations
 
 from typing import Any, List, Mapping, Optional, Sequence, Tuple
@@ -18,9 +18,9 @@ TAKER_KEY = "taker"
 
 
 class WideFinder(gather.Finder):
-    """Finds what relint-wide finds; without limits of trials it looks for the first kind only.
+    """Finds what relint-wide finds. Without limits of trials, nothing is tried, and only the kind ELSEWHERE is looked for.
 
-    `counts` are there once it has looked; `takers` are the added rows of the table.
+    `takers` are the rows added to the table of takers. `counts` are those of the last call of `entries`.
     """
 
     def __init__(self, limits: Optional[Limits], takers: Sequence[Mapping[str, Any]]) -> None:
@@ -31,7 +31,7 @@ class WideFinder(gather.Finder):
     def entries(
         self, own: Sequence[Entry], selection: Selection, rules: gather.Rules, folders: Tuple[str, ...],
     ) -> Tuple[Entry, ...]:
-        """Returns the entries beyond relint's own. Raises GatherError and ProgramError."""
+        """Returns the entries that are found besides `own`, relint's own entries. Raises GatherError and ProgramError."""
         max_degree = Config.max_degree if rules.max_degree is None else rules.max_degree
         options = (f"--max-pairs={rules.max_pairs}",)
         settings = run.Settings(rules.compile_as, max_degree, options, rules.jobs, self._limits, self._takers, folders)
@@ -44,7 +44,7 @@ class WideFinder(gather.Finder):
 
 
 def rows_of(found: Config) -> Tuple[List[Mapping[str, Any]], List[str]]:
-    """Returns the rows that a configuration adds to the table of takers, and a line for each that is wrong."""
+    """Returns the right rows that a configuration adds to the table of takers, and a line for each wrong one."""
     where = visible(found.file or "")
     wrong = [f"{where}: wide has a key that isn't known: {visible(it)}; it is left out"
              for it in found.wide_table if it != TAKER_KEY]
@@ -53,6 +53,6 @@ def rows_of(found: Config) -> Tuple[List[Mapping[str, Any]], List[str]]:
 
 
 def by_reading(found: Config) -> Tuple[gather.Finder, List[str]]:
-    """Returns what looks for the first kind as a configuration says, and a line for each of its rows that is wrong."""
+    """Returns a finder that tries nothing, with the rows of a configuration, and a line for each wrong row."""
     rows, wrong = rows_of(found)
     return WideFinder(None, rows), wrong

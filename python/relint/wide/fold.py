@@ -1,6 +1,6 @@
-"""Folds an expression of a source into the value that it always has. Nothing of the source is run.
+"""Folds an expression of a source into the value that it always has, without running any of the source.
 
-A name counts if it is bound once, to a value that can be folded. The work on one file is limited.
+The value of a name is known if it is bound once, to an expression that can be folded. The work on one file is limited.
 """
 from __future__ import annotations
 
@@ -27,27 +27,31 @@ Value = TypeVar("Value")
 
 
 class Folder:
-    """Folds expressions of the files of a run."""
+    """Folds expressions in the files of a run.
+
+    The methods in FOLDERS each fold one kind of expression. They return its value, and raise NotKnown if it isn't known.
+    """
 
     def __init__(self, modules: Modules) -> None:
         self.modules = modules
         self._steps = self._depth = 0
         self._kept: MutableMapping[Any, Kept] = {}
         self._loops = Loops()
-        # The item that a loop is at, or why its items can't be told; and the loops of which each item is taken for itself.
+        # For each loop that is gone through, its present item, or the reason why its items aren't known.
         self._items_at: Dict[ast.AST, Union[Known, NotKnown]] = {}
+        # The loops that `each` goes through item by item, the outermost first.
         self._taken: List[ast.AST] = []
 
     def begin(self) -> None:
-        """Begins a file, with all of its steps left, and forgets what was folded for the file before."""
+        """Begins a file: resets its limits, and forgets what was folded for the file before."""
         self._steps = self._depth = 0
         self._kept = {}
         self._loops = Loops()
 
     def each(self, fold: Callable[[], Value], place: ast.expr, scope: Scope, module: Module) -> List[Value]:
-        """Returns what `fold` gives of a place: a value, or one for each item of the loops that the place is in.
+        """Returns the results of `fold`: one or, if it needs the variable of a loop, one for each item of the loop.
 
-        Raises NotKnown.
+        The loops are those around `place`. Raises NotKnown if `fold` does, or if there are too many loops or results.
         """
         try:
             return [fold()]
@@ -62,7 +66,7 @@ class Folder:
         self._taken.append(loop)
         try:
             for it in items:
-                # (what was folded before hangs on no item of this loop)
+                # (what was folded before doesn't depend on the items of this loop)
                 self._kept = ChainMap({}, kept)
                 self._items_at[loop] = it
                 found += self.each(fold, place, scope, module)
@@ -77,7 +81,11 @@ class Folder:
     def _items_of(
         self, varies: Varies, place: ast.expr, scope: Scope, module: Module,
     ) -> "Tuple[Varies, List[Union[Known, NotKnown]]]":
-        """The items of a loop, or of the one around it from which its items come; a reason where they aren't known."""
+        """The loop to go through, and its items.
+
+        That is the loop of `varies` or, if its items depend on the variable of another loop, that other loop. If the items
+        aren't known, the only item is the NotKnown that says why. Raises NotKnown if too many loops depend on each other.
+        """
         for _ in range(MOST_LOOPS):
             binding = varies.binding
             try:
@@ -98,7 +106,10 @@ class Folder:
         raise NotKnown("too deep")
 
     def _turns(self, node: ast.expr, scope: Scope, module: Module) -> List[Known]:
-        """The items of a loop that is to be taken item by item. The order of a set is of no matter here."""
+        """The items of a loop that is gone through item by item, which may be over a set since the order doesn't matter.
+
+        Raises NotKnown if they aren't known, if there are too many, or if there are none.
+        """
         if isinstance(node, ast.Set):
             items = self.sequence(node, scope, module).value
             assert isinstance(items, Sequence)
@@ -112,7 +123,10 @@ class Folder:
         return found
 
     def fold(self, node: ast.AST, scope: Scope, module: Module) -> Known:
-        """Returns the value that an expression always has. Raises NotKnown."""
+        """Returns the value that an expression always has.
+
+        Raises NotKnown if it isn't known, and Varies if it depends on the variable of a loop that isn't gone through.
+        """
         self._steps += 1
         if self._steps > MOST_STEPS:
             raise NotKnown("too much work")
@@ -128,10 +142,14 @@ class Folder:
             self._depth -= 1
 
     def qualified(self, node: ast.AST, scope: Scope, module: Module) -> Optional[str]:
-        """Returns the name with which what an expression names is imported, as "re.compile"; None if it isn't imported."""
+        """Returns the full dotted name of an imported thing that an expression names, such as "re.compile".
+
+        Returns None if the expression names nothing that is imported.
+        """
         return self._renamed(node, scope, module, -1)
 
     def _renamed(self, node: ast.AST, scope: Scope, module: Module, depth: int) -> Optional[str]:
+        """The same as `qualified`, after `depth` other names have been followed."""
         names: List[str] = []
         while isinstance(node, ast.Attribute):
             names.append(node.attr)
@@ -142,6 +160,7 @@ class Folder:
         return ".".join([start, *reversed(names)]) if start else None
 
     def _imported(self, name: str, scope: Scope, module: Module, depth: int) -> Optional[str]:
+        """The full dotted name of what a name is imported as, or is another name for; None if it isn't imported."""
         _, bindings = scope.lookup(name)
         targets = {(it.module, it.member) for it in bindings if it.kind == "import"}
         if depth > 8:
@@ -151,12 +170,13 @@ class Folder:
         if not bindings or any(it.kind != "import" for it in bindings):
             return None
         if len(targets) > 1:
-            # (a module tried first, and `re` in its place, have the same calls)
+            # (`regex` with `re` as its replacement counts as `re`, since both have the same calls)
             names = {f"{one}.{other}" if other else one for one, other in targets}
             return "re" if names == {"re", "regex"} else None
         return self._origin(*targets.pop(), module, depth)
 
     def _origin(self, source: str, member: Optional[str], module: Module, depth: int) -> Optional[str]:
+        """The full dotted name of a member of the module `source`, followed through other modules of the run."""
         if member is None:
             return source
         path = self.modules.find(source, module.path)
@@ -170,17 +190,17 @@ class Folder:
         return self.modules.name_of(below) if below else None
 
     def _is_hidden_by_star(self, binding: Binding, module: Module) -> bool:
-        """Whether a star import below a binding may bind the name again."""
+        """Whether a star import after a binding may bind the name again."""
         return any(line > binding.line for _, line in module.scopes.stars)
 
     def constant(self, node: ast.Constant, scope: Scope, module: Module) -> Known:
-        """A constant that isn't a number with a point."""
+        """Folds a constant: None, a text, bytes or a whole number."""
         if node.value is None or isinstance(node.value, (str, bytes, int)):
             return made(node.value, ())
         raise NotKnown("constant of another kind")
 
     def f_string(self, node: ast.JoinedStr, scope: Scope, module: Module) -> Known:
-        """An f-string whose fields are known and have no form of their own."""
+        """Folds an f-string whose fields are known and have no format of their own."""
         parts: List[Known] = []
         for it in node.values:
             if isinstance(it, ast.FormattedValue):
@@ -193,7 +213,7 @@ class Folder:
         return texts.joined(Known(""), parts)
 
     def operation(self, node: ast.BinOp, scope: Scope, module: Module) -> Known:
-        """`+`, `*`, `%` and `|`. A long sum is taken from the left, without going deeper for each part."""
+        """Folds `+`, `*`, `%` and `|`. A long sum is folded from the left in a loop, so it doesn't count as deep."""
         terms: List[ast.BinOp] = []
         left: ast.AST = node
         while isinstance(left, ast.BinOp):
@@ -209,14 +229,14 @@ class Folder:
         return found
 
     def negative(self, node: ast.UnaryOp, scope: Scope, module: Module) -> Known:
-        """A negative number."""
+        """Folds a negative number."""
         part = self.fold(node.operand, scope, module)
         if isinstance(node.op, ast.USub) and isinstance(part.value, int):
             return made(-part.value, (part,))
         raise NotKnown("operator")
 
     def name(self, node: ast.Name, scope: Scope, module: Module) -> Known:
-        """A name that is bound once, or a variable of a loop over known values."""
+        """Folds a name that is bound once, or the variable of a loop over known items."""
         where, bindings = scope.lookup(node.id)
         if where is None or not bindings:
             return self._from_star(node.id, module)
@@ -230,7 +250,7 @@ class Folder:
         return self._bound(node.id, binding, where, module)
 
     def _of_loop(self, name: str, binding: Binding, where: Scope, module: Module) -> Known:
-        """What a variable of a loop is at the item where the loop is."""
+        """The value of a loop's variable at the loop's present item. Raises Varies if the loop isn't gone through yet."""
         loop = binding.loop
         assert loop is not None
         found = self._items_at.get(loop)
@@ -250,6 +270,7 @@ class Folder:
         return found.with_name(Held(name, module.path, binding.line), needs)
 
     def _only(self, bindings: List[Binding], where: Scope, module: Module, kind: str = "value") -> Binding:
+        """The only one of the bindings. Raises NotKnown if there are others, or if it can't be relied on."""
         if len(bindings) != 1:
             raise NotKnown("parameter" if any(it.kind == "parameter" for it in bindings) else "bound more than once")
         binding = bindings[0]
@@ -263,6 +284,7 @@ class Folder:
         return binding
 
     def _bound(self, name: str, binding: Binding, where: Scope, module: Module) -> Known:
+        """The value that a binding gives a name, folded once and kept. Raises NotKnown if it depends on itself."""
         key = (where, name)
         kept = self._kept.get(key, False)
         if kept is None:
@@ -286,6 +308,7 @@ class Folder:
         return found
 
     def _value_of(self, name: str, binding: Binding, where: Scope, module: Module) -> Known:
+        """Folds the value that a binding gives a name. Raises NotKnown if the value can be changed in place, and is."""
         if binding.kind == "import":
             return self._from_import(binding, module)
         if binding.node is None or binding.scope is None:
@@ -306,7 +329,7 @@ class Folder:
         return self._member(path, binding.member)
 
     def _member(self, path: str, name: str) -> Known:
-        """The value of a name of a module of the run."""
+        """The value of a name in a module of the run."""
         other = self.modules.get(path)
         if other is None:
             raise NotKnown("import from a file that can't be read")
@@ -331,7 +354,7 @@ class Folder:
             self._depth -= 1
 
     def attribute(self, node: ast.Attribute, scope: Scope, module: Module) -> Known:
-        """A flag of `re`, a name of another module, or an attribute of a class, an enum member's value too."""
+        """Folds a flag of `re`, a name of another module, an attribute of a class, or the value of an enum's member."""
         full = self.qualified(node, scope, module)
         front, _, last = (full or "").rpartition(".")
         if front in ("re", "regex", "re.RegexFlag") and last in NAMES:
@@ -346,6 +369,7 @@ class Folder:
         return self._class_member(node, scope, module, is_enum=False)
 
     def _class_member(self, node: ast.Attribute, scope: Scope, module: Module, is_enum: bool) -> Known:
+        """The value of an attribute of a class; with `is_enum`, of a member of an enum."""
         found = self._class_of(node.value, scope, module)
         if found is None:
             raise NotKnown("attribute")
@@ -357,6 +381,10 @@ class Folder:
         return self._attribute_of(node.attr, inside, home, is_own, 0)
 
     def _attribute_of(self, name: str, inside: Scope, home: Module, is_own: bool, depth: int) -> Known:
+        """The value of an attribute of the class with the scope `inside`, in the file `home`, or of its base classes.
+
+        `is_own` says that it is read as an attribute of `self` or `cls`; `depth` is how far up the base classes this one is.
+        """
         bindings = inside.bindings.get(name, [])
         stores = home.scopes.stores.get(name, [])
         if not bindings:
@@ -376,7 +404,7 @@ class Folder:
         return found.with_name(Held(name, home.path, bindings[0].line), (needs, name))
 
     def _from_instance(self, name: str, inside: Scope, home: Module, is_own: bool, depth: int) -> Known:
-        """An attribute that a base class binds, or that one method sets once."""
+        """The value of an attribute that the class itself doesn't bind: set once by a method, or bound by a base class."""
         stores = home.scopes.stores.get(name, [])
         if len(stores) == 1 and is_own and stores[0].value is not None:
             store = stores[0]
@@ -396,6 +424,7 @@ class Folder:
         raise NotKnown("attribute that is set" if stores else "attribute")
 
     def _stored(self, store: Store, home: Module) -> Known:
+        """The value that an assignment to an attribute gives it."""
         assert store.value is not None
         try:
             return self.fold(store.value, store.scope, home)
@@ -404,7 +433,10 @@ class Folder:
             raise
 
     def _class_of(self, node: ast.AST, scope: Scope, module: Module) -> Optional[Tuple[Scope, Module, bool]]:
-        """The class that an expression names, the file it is in, and whether it is by `self` or `cls` that it is named."""
+        """The scope of the class that an expression names, its file, and whether it is named by `self` or `cls`.
+
+        Returns None if the expression names no class of the run.
+        """
         if isinstance(node, ast.Attribute) and node.attr == "__class__":
             node = node.value
         if not isinstance(node, ast.Name):
@@ -420,6 +452,7 @@ class Folder:
         return self._imported_class(node, scope, module)
 
     def _imported_class(self, node: ast.AST, scope: Scope, module: Module) -> Optional[Tuple[Scope, Module, bool]]:
+        """The same as `_class_of`, for a class that is imported from another module of the run."""
         if isinstance(node, ast.Name):
             _, bindings = scope.lookup(node.id)
             found = bindings[0] if len(bindings) == 1 else None
@@ -437,7 +470,7 @@ class Folder:
         return bindings[0].inside, other, False
 
     def sequence(self, node: Any, scope: Scope, module: Module) -> Known:
-        """A list or a tuple."""
+        """Folds a list or a tuple, or a set for `_turns`."""
         items: List[Known] = []
         for it in node.elts:
             if isinstance(it, ast.Starred):
@@ -447,7 +480,7 @@ class Folder:
         return made(Sequence(tuple(items), isinstance(node, ast.List)), items)
 
     def table(self, node: ast.Dict, scope: Scope, module: Module) -> Known:
-        """A dictionary."""
+        """Folds a dictionary whose keys are texts, bytes or whole numbers."""
         items: Dict[Union[str, bytes, int], Known] = {}
         for key, value in zip(node.keys, node.values):
             if key is None:
@@ -459,7 +492,7 @@ class Folder:
         return made(Table(items), items.values())
 
     def subscript(self, node: ast.Subscript, scope: Scope, module: Module) -> Known:
-        """An item or a slice of a known sequence or text, or an item of a dictionary."""
+        """Folds an item of a sequence or a dictionary, or a slice of a sequence or a text."""
         subject = self.fold(node.value, scope, module)
         value = subject.value
         if isinstance(node.slice, ast.Slice):
@@ -482,7 +515,7 @@ class Folder:
         return made(subject.text()[taken], (subject,))
 
     def call(self, node: ast.Call, scope: Scope, module: Module) -> Known:
-        """A call of re.escape, dedent, a few builtins, or a method of a text."""
+        """Folds a call of `re.escape`, `textwrap.dedent`, one of a few builtins, or a method of a text."""
         full = self.qualified(node.func, scope, module)
         if full in ("re.escape", "regex.escape") and len(node.args) == 1 and not node.keywords:
             return self._escape(node.args[0], scope, module)
@@ -495,6 +528,7 @@ class Folder:
         raise NotKnown("call")
 
     def _escape(self, node: ast.AST, scope: Scope, module: Module) -> Known:
+        """The value of `re.escape(..)`; if what it escapes isn't known, a text that stands in for it."""
         try:
             return texts.escaped(self.fold(node, scope, module))
         except Varies:
@@ -503,6 +537,7 @@ class Folder:
             return texts.stand_in(False, f"re.escape({_shortened(node)})")[0]
 
     def _builtin(self, name: str, node: ast.Call, scope: Scope, module: Module) -> Known:
+        """The value of a call of a builtin function."""
         if node.keywords or any(isinstance(it, ast.Starred) for it in node.args):
             raise NotKnown("call")
         if name == "range":
@@ -528,6 +563,7 @@ class Folder:
         raise NotKnown("call")
 
     def _method(self, function: ast.Attribute, node: ast.Call, scope: Scope, module: Module) -> Known:
+        """The value of a call of a method of a known text."""
         if any(isinstance(it, ast.Starred) for it in node.args) or any(it.arg is None for it in node.keywords):
             raise NotKnown("call")
         subject = self.fold(function.value, scope, module)
@@ -542,6 +578,7 @@ class Folder:
         return texts.method(function.attr, subject, parts)
 
     def _join(self, separator: Known, node: ast.AST, scope: Scope, module: Module) -> Known:
+        """The value of `separator.join(..)`; if the items are unknown but escaped, two texts stand in for them."""
         try:
             return texts.joined(separator, self._items(node, scope, module))
         except Varies:
@@ -553,7 +590,7 @@ class Folder:
             return texts.joined(separator, texts.stand_in(isinstance(separator.value, bytes), words, 2))
 
     def _escapes_of(self, node: ast.AST, scope: Scope, module: Module) -> Optional[str]:
-        """What a sequence of escaped texts is called, where nothing but that is known of it."""
+        """Words for a sequence of unknown texts that are all escaped by `re.escape`; None if it isn't such a sequence."""
         if isinstance(node, (ast.GeneratorExp, ast.ListComp)):
             inside = module.scopes.inner[node]
             element = node.elt
@@ -567,7 +604,7 @@ class Folder:
         return is_map and isinstance(node, ast.Call) and self.qualified(node.args[0], scope, module) == "re.escape"
 
     def _items(self, node: ast.AST, scope: Scope, module: Module) -> List[Known]:
-        """The items that a loop over an expression takes, in order."""
+        """The items of a loop over an expression, in order. Raises NotKnown if they aren't known."""
         if isinstance(node, (ast.GeneratorExp, ast.ListComp)):
             return self._comprehended(node, scope, module)
         if isinstance(node, ast.Call) and self._maps_escape(node, scope, module):
@@ -584,6 +621,7 @@ class Folder:
         raise NotKnown("loop over another kind")
 
     def _of_table(self, kind: str, found: Known) -> List[Known]:
+        """The keys, the values or the items of a dictionary, as `kind` says."""
         if not isinstance(found.value, Table):
             raise NotKnown("call")
         if kind == "keys":
@@ -594,7 +632,7 @@ class Folder:
         return [made(it.value, (found, it)) for it in found.value.items.values()]
 
     def _comprehended(self, node: Any, scope: Scope, module: Module) -> List[Known]:
-        """The values of a comprehension with one loop over known items and no condition."""
+        """The items of a comprehension that has one loop over known items and no condition. Raises NotKnown for others."""
         loop = node.generators[0]
         if len(node.generators) != 1 or loop.ifs or loop.is_async or loop in self._items_at:
             raise NotKnown("comprehension")
@@ -610,13 +648,13 @@ class Folder:
         return found
 
     def comprehension(self, node: Any, scope: Scope, module: Module) -> Known:
-        """A list made by a comprehension."""
+        """Folds a list comprehension."""
         items = self._comprehended(node, scope, module)
         return made(Sequence(tuple(items), True), items)
 
 
 def _range(ends: List[Any]) -> Known:
-    """What `range` goes through."""
+    """The numbers of `range` as a sequence. Raises NotKnown if its arguments aren't known or there are too many numbers."""
     if not 1 <= len(ends) <= 3 or any(type(it) is not int for it in ends) or ends[2:] == [0]:
         raise NotKnown("call")
     numbers = range(*ends)
@@ -626,29 +664,31 @@ def _range(ends: List[Any]) -> Known:
 
 
 def _rows(rows: "List[Tuple[Known, ...]]") -> Known:
-    """What `zip` and `enumerate` go through."""
+    """The rows of `zip` or `enumerate` as a sequence of tuples."""
     found = [made(Sequence(row), row) for row in rows]
     return made(Sequence(tuple(found)), found)
 
 
 def _can_change(found: Known) -> bool:
+    """Whether a value is a list or a dictionary, which code can change in place."""
     return isinstance(found.value, Table) or (isinstance(found.value, Sequence) and found.value.is_list)
 
 
 def _is_enum(scope: Scope) -> bool:
+    """Whether the scope is that of an enum's body whose members have the values that are written there."""
     node = scope.node
     bases: List[ast.expr] = node.bases if isinstance(node, ast.ClassDef) else []
     return any(last_name(it) in ENUMS for it in bases) and "__new__" not in scope.bindings
 
 
 def _has_fields(node: ast.ClassDef) -> bool:
-    """Whether the names of a class's body are the defaults of its objects' fields."""
+    """Whether the names bound in a class's body are defaults of fields, as in a dataclass."""
     is_made = any(last_name(it) in MAKE_FIELDS for it in node.decorator_list)
     return is_made or any(last_name(it) in HAVE_FIELDS for it in node.bases)
 
 
 def _is_first(name: str, node: Optional[ast.AST]) -> bool:
-    """Whether a name is the first parameter of a method, which is then the object or its class."""
+    """Whether a name is the first parameter of a method that isn't static, and so holds the object or its class."""
     if not isinstance(node, (ast.FunctionDef, ast.AsyncFunctionDef)):
         return False
     if any(getattr(it, "id", "") == "staticmethod" for it in node.decorator_list):
@@ -658,7 +698,10 @@ def _is_first(name: str, node: Optional[ast.AST]) -> bool:
 
 
 def _shortened(node: ast.AST) -> str:
-    """An expression as it is written, if it is short."""
+    """An expression as text, for messages: as `ast.unparse` writes it, cut after 38 characters if it has more than 40.
+
+    Returns ".." if `ast.unparse` fails on it.
+    """
     try:
         text = ast.unparse(node)
     except (RecursionError, ValueError):

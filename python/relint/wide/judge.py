@@ -1,6 +1,6 @@
-"""What relint itself says of patterns that no source holds as literals: each is written as one, and the whole is checked.
+"""Has relint judge patterns that aren't literals in a source: each is written as a literal in a new source.
 
-Python's literals of relint's own form have exactly the value that they were made from, so what is judged is the very text.
+A literal written here has exactly the value that it was made from, so relint judges the right pattern.
 """
 from __future__ import annotations
 
@@ -21,7 +21,7 @@ LONGEST_PATTERN = 100_000
 
 
 class JudgeError(Exception):
-    """relint gave no report on the patterns; the message says why."""
+    """Raised if relint gave no report on the patterns; the message says why."""
 
 
 @dataclass(frozen=True)
@@ -34,19 +34,19 @@ class Question:
 
 
 def flag_words(flags: int) -> str:
-    """Returns the flags as an expression, as "re.I | re.M"; "0" where there is none."""
+    """Returns the flags as a Python expression, such as "re.I | re.M", or "0" if there are none."""
     return code(flags, "".join(VALUES)) or "0"
 
 
 def source_line(question: Question) -> str:
-    """Returns a line of a source that holds a question as a call with a literal."""
+    """Returns a line of Python that asks a question by a call with a literal."""
     return f"re.{question.mode}({plain.quoted(question.pattern)}, t, {flag_words(question.flags)})\n"
 
 
 def judged(questions: Iterable[Question], options: Sequence[str], jobs: int) -> Dict[Question, Entry]:
-    """Returns relint's entry for each question; its path and its places mean nothing. Raises JudgeError and ProgramError.
+    """Returns relint's entry for each question, without path and places. Raises JudgeError and ProgramError.
 
-    A pattern above a limit on its length has the entry that relint would have for it, and isn't written.
+    relint isn't asked about a pattern longer than LONGEST_PATTERN; its entry is the one that relint would give.
     """
     distinct = list(dict.fromkeys(questions))
     found = {it: Entry("", "refused", call=it.mode, cause="too-long") for it in distinct if len(it.pattern) > LONGEST_PATTERN}
@@ -59,6 +59,7 @@ def judged(questions: Iterable[Question], options: Sequence[str], jobs: int) -> 
 
 
 def _parts(questions: Sequence[Question]) -> Iterator[List[Question]]:
+    """Yields the questions in parts, each for one run."""
     part: List[Question] = []
     size = 0
     for it in questions:
@@ -72,6 +73,7 @@ def _parts(questions: Sequence[Question]) -> Iterator[List[Question]]:
 
 
 def _asked(path: str, questions: Sequence[Question], options: Sequence[str]) -> List[Entry]:
+    """relint's entries for the questions, in order, by one run over the file `path`, which this writes. Raises JudgeError."""
     Path(path).write_text("import re\n" + "".join(map(source_line, questions)), encoding="ascii")
     answer = program.run(["check", "--format", "json", "--report", "2", *options, "--", path])
     try:

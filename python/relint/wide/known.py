@@ -1,4 +1,4 @@
-"""What an expression of a source is known to be, and from which names its parts come."""
+"""The values that expressions of a source are known to have, with the names from which their parts come."""
 from __future__ import annotations
 
 import ast
@@ -13,7 +13,7 @@ LARGEST_NUMBER = 1 << 64
 
 
 class NotKnown(Exception):
-    """The value can't be told from the sources; the argument names the kind of reason in a word or two."""
+    """Raised if a value can't be told from the sources; `why` names the kind of reason in a word or two."""
 
     def __init__(self, why: str) -> None:
         super().__init__(why)
@@ -21,10 +21,10 @@ class NotKnown(Exception):
 
 
 class Varies(NotKnown):
-    """The value hangs on the item that a loop is at.
+    """Raised if a value depends on the variable of a loop.
 
-    `binding` is that of the loop's variable and `where` its scope. `through` are expressions that names are bound to on the
-    way to the variable, and `lists` those that loops inside of this one go through.
+    `binding` is the binding of that variable, and `where` is its scope. `through` are the values of the names that were
+    followed to get to the variable. `lists` are what loops inside of this loop go through.
     """
 
     def __init__(self, binding: Binding, where: Scope) -> None:
@@ -45,7 +45,7 @@ class Held:
 
 @dataclass(frozen=True)
 class Sequence:
-    """A list or a tuple of known values. The names of lists can be changed in place, those of tuples can't."""
+    """A list or a tuple of known values. Code can change a list in place, but not a tuple."""
 
     items: Tuple["Known", ...]
     is_list: bool = False
@@ -53,7 +53,7 @@ class Sequence:
 
 @dataclass(frozen=True)
 class Table:
-    """A dictionary of known values by their keys, in the order of the source."""
+    """A dictionary with known values, in the order of the source."""
 
     items: Mapping[Union[str, bytes, int], "Known"] = field(hash=False)
 
@@ -63,10 +63,11 @@ Value = Union[str, bytes, int, bool, None, Sequence, Table]
 
 @dataclass(frozen=True)
 class Known:
-    """A value, the names that hold parts of it, what has to be said of it, and what it takes for granted.
+    """A value, with the names that hold parts of it, notes for people, and the names that it depends on.
 
-    `notes` are words for people, as that a stand-in was put for a part. `needs` are names that nothing else may bind: `path`
-    and name for a name of a module, "class " with the class's name and the attribute for an attribute of a class.
+    A note says, for example, that a stand-in was put in place of a part. The value is right only if nothing else binds the
+    names in `needs`. Each of them is a pair: for a name of a module, the module's path and the name; for an attribute,
+    "class " or "object " followed by the class's name, and the attribute.
     """
 
     value: Value
@@ -75,22 +76,25 @@ class Known:
     needs: FrozenSet[Tuple[str, str]] = frozenset()
 
     def with_name(self, held: Held, needs: Tuple[str, str]) -> "Known":
-        """Returns the value as held by one more name."""
+        """Returns the value with one more name that holds it, and one more name that nothing else may bind."""
         return replace(self, held=_distinct((held, *self.held)), needs=self.needs | {needs})
 
     def with_note(self, note: str) -> "Known":
-        """Returns the value with one more thing said of it."""
+        """Returns the value with one more note."""
         return replace(self, notes=_distinct((*self.notes, note)))
 
     def text(self) -> Union[str, bytes]:
-        """Returns the value as a text. Raises NotKnown if it is none."""
+        """Returns the value if it is a text or bytes. Raises NotKnown if it isn't."""
         if isinstance(self.value, (str, bytes)):
             return self.value
         raise NotKnown("not a text")
 
 
 def made(value: Any, parts: Iterable[Known]) -> Known:
-    """Returns a value made of parts, with all that goes for them. Raises NotKnown if it is too large."""
+    """Returns a value that was made from parts, with the names, notes and needs of the parts.
+
+    Raises NotKnown if the value is too large.
+    """
     check_size(value)
     held: List[Held] = []
     notes: List[str] = []
@@ -103,7 +107,7 @@ def made(value: Any, parts: Iterable[Known]) -> Known:
 
 
 def check_size(value: Any) -> None:
-    """Raises NotKnown if a value is above the limits on texts, lists and numbers."""
+    """Raises NotKnown if a value exceeds the limits on texts, lists and numbers."""
     if isinstance(value, (str, bytes)) and len(value) > LONGEST_TEXT:
         raise NotKnown("too large")
     if isinstance(value, Sequence) and len(value.items) > LONGEST_LIST:
@@ -113,4 +117,5 @@ def check_size(value: Any) -> None:
 
 
 def _distinct(found: Iterable[Any]) -> Tuple[Any, ...]:
+    """The items in order, each once."""
     return tuple(dict.fromkeys(found))

@@ -1,4 +1,4 @@
-"""What one file of a run holds, as a child process finds it: its patterns, and what it binds in other files."""
+"""Finds what one file of a run holds: its patterns, and what it binds in other files. A child process does this."""
 from __future__ import annotations
 
 import ast
@@ -29,8 +29,10 @@ CODINGS = ("utf-8", "utf-8-sig", "ascii")
 class Looked:
     """What was found in a file.
 
-    `binds` are names of other files or classes that it binds, as `Known.needs` names them; `bases` the bases of its classes
-    by name; `why` says why the file couldn't be read, and `left_out` are cells of a notebook that couldn't.
+    `binds` are the names of other files or of classes that the file binds, in the same form as `Known.needs`. `bases` are
+    pairs of a class's name and the name of one of its bases. `why` says why the file can't be read. `left_out` are the
+    numbers of the notebook cells that can't be read. `is_skipped` says that the file was skipped because it can't give a
+    pattern.
     """
 
     path: str
@@ -53,7 +55,7 @@ class Looker:
         self._words = _words(takers)
 
     def _text(self, path: str) -> str:
-        """The text of a Python file. Raises ModuleError."""
+        """The text of a Python file. Raises ModuleError if it can't be read, or isn't UTF-8."""
         data = self._bytes(path, LARGEST_SOURCE)
         try:
             coding, _ = tokenize.detect_encoding(io.BytesIO(data).readline)
@@ -70,7 +72,7 @@ class Looker:
             raise ModuleError(str(error)) from error
 
     def look(self, path: str) -> Looked:
-        """Returns what a file holds."""
+        """Returns what a file or a notebook holds, or why it can't be read."""
         try:
             if path.endswith(".ipynb"):
                 return self._notebook(path)
@@ -86,7 +88,7 @@ class Looker:
             return Looked(path, why="it takes too much memory")
 
     def binds(self, path: str, names: Iterable[str]) -> Looked:
-        """Returns what a file that was skipped binds in others, if one of the names stands in it."""
+        """Returns what a file that was skipped binds in other files, if one of the names is in its text; else nothing."""
         try:
             text = self._text(path)
             wanted = "|".join(map(re.escape, sorted(names)))
@@ -103,7 +105,7 @@ class Looker:
         return Looked(path, found, tuple(sorted(self._bound(module))), tuple(sorted(_bases(module))))
 
     def _bound(self, module: Module) -> Set[Tuple[str, str]]:
-        """What a module binds in other modules and in classes."""
+        """The names that a module binds in other modules and in classes."""
         bound: Set[Tuple[str, str]] = set()
         for stores in module.scopes.stores.values():
             for store in stores:
@@ -122,6 +124,7 @@ class Looker:
         return bound
 
     def _bind(self, base: ast.AST, name: str, scope: Any, module: Module, bound: Set[Tuple[str, str]]) -> None:
+        """Adds what may be bound if the attribute `name` of `base` is set."""
         full = self._folder.qualified(base, scope, module)
         path = self._modules.find(full, module.path) if full else None
         if path and path != module.path:
@@ -137,7 +140,7 @@ class Looker:
 
 
 def _words(takers: Sequence[Taker]) -> "re.Pattern[str]":
-    """A pattern for texts without which a file gives no pattern to anything: names of modules, and of some methods."""
+    """A pattern that matches in every file that can give a pattern to a taker: it looks for names of modules and methods."""
     names = {"re", "regex"}
     for taker in takers:
         names.update(it.split(".")[0] for it in taker.calls)
@@ -147,12 +150,13 @@ def _words(takers: Sequence[Taker]) -> "re.Pattern[str]":
 
 
 def _named_as(found: Found, path: str) -> Found:
-    """What was found, with the file's path as the user named it."""
+    """The pattern with the path of the file as the user named it."""
     held = tuple(replace(it, path=path) if it.path == os.path.normpath(path) else it for it in found.held)
     return replace(found, path=path, held=held)
 
 
 def _in_cell(found: Found, notebook: Notebook) -> Found:
+    """The pattern with its places in the cells of the notebook."""
     cell, line = notebook.origin(found.start.line)
     _, last = notebook.origin(found.end.line)
     held = tuple(replace(it, line=notebook.origin(it.line)[1], name=f"{it.name}, cell {notebook.origin(it.line)[0]}")
@@ -170,7 +174,7 @@ def _bases(module: Module) -> Set[Tuple[str, str]]:
 
 
 def as_json(looked: Looked) -> Dict[str, Any]:
-    """Returns what was found as values for JSON."""
+    """Returns what was found in a file as values for JSON."""
     return {
         "path": looked.path, "found": [_found_as_json(it) for it in looked.found], "binds": looked.binds,
         "bases": looked.bases, "why": looked.why, "left_out": looked.left_out, "is_skipped": looked.is_skipped,
@@ -189,7 +193,7 @@ def _found_as_json(found: Found) -> Dict[str, Any]:
 
 
 def from_json(given: Dict[str, Any]) -> Looked:
-    """Returns what `as_json` gave the values of."""
+    """Returns what was found in a file from the values that `as_json` made of it."""
     found = tuple(_found_from_json(it) for it in given["found"])
     binds, bases = _pairs(given["binds"]), _pairs(given["bases"])
     return Looked(given["path"], found, binds, bases, given["why"], tuple(given["left_out"]), given["is_skipped"])

@@ -1,7 +1,7 @@
-"""Which loops give a place each of their items in turn: loops over known items, whose variables nothing else binds.
+"""Decides whether the code at a place is run with each item of a loop.
 
-A place may take the items of a loop if it is in the loop's body and run there at once, if no test on the loop's variables can
-pass items by, and if the loop doesn't end in its first turn. Tests on what a pattern matches may: any item may come then.
+It is if it is in the loop's body and is run there at once, if no test on the loop's variables can skip items, and if the loop
+doesn't always end in its first turn. A test on what a pattern matches is allowed, because any item may pass it.
 """
 from __future__ import annotations
 
@@ -21,23 +21,23 @@ Span = Tuple[Tuple[int, int], Tuple[int, int]]
 
 
 def span(node: Any) -> Span:
-    """Returns where an expression or a statement begins and ends."""
+    """Returns the line and the column where an expression or a statement begins, and those where it ends."""
     return (node.lineno, node.col_offset), (node.end_lineno, node.end_col_offset)
 
 
 def is_within(inner: Span, outer: Span) -> bool:
-    """Whether one part of a source is inside of another one, or is the same."""
+    """Returns whether one part of a source is inside of another one, or is the same."""
     return outer[0] <= inner[0] and inner[1] <= outer[1]
 
 
 class Loops:
-    """The loops of one file, as far as they were asked about."""
+    """Answers questions about the loops of one file, and keeps the places of their tests."""
 
     def __init__(self) -> None:
         self._tests: Dict[ast.AST, List[Span]] = {}
 
     def reason(self, varies: Varies, place: ast.expr, scope: Scope) -> str:
-        """Returns why a place doesn't take each item of a loop; "" if it does. `scope` is the one that the place is in."""
+        """Returns why a place isn't run with each item of a loop, or "" if it is. `scope` is the scope of the place."""
         loop = varies.binding.loop
         if not any(varies.where is it for it in _scopes_run_with(scope)):
             return "loop"
@@ -55,7 +55,7 @@ class Loops:
         return WITH_TEST if any(not is_within(span(place), it) for it in tested) else ""
 
     def _tested(self, loop: Any, where: Scope) -> List[Span]:
-        """The places of the tests on the variables of a loop."""
+        """The spans of the tests on the variables of a loop; `where` is the scope of these variables."""
         if loop not in self._tests:
             names = {it.id for it in ast.walk(loop.target) if isinstance(it, ast.Name)}
             nodes: List[Any] = [*loop.body] if isinstance(loop, ast.For) else [where.node]
@@ -64,7 +64,7 @@ class Loops:
 
 
 def _scopes_run_with(scope: Scope) -> Iterator[Scope]:
-    """The scopes whose loops are at an item while an expression of a scope is run."""
+    """Yields a scope, and the scopes around it that run it at once: a list comprehension is, a generator isn't."""
     at = scope
     yield at
     while isinstance(at.node, AT_ONCE) and at.parent is not None:
@@ -73,6 +73,7 @@ def _scopes_run_with(scope: Scope) -> Iterator[Scope]:
 
 
 def _tests_of(top: Any) -> Iterator[ast.expr]:
+    """Yields the expressions in a node on whose values it depends whether other code is run."""
     for node in ast.walk(top):
         if isinstance(node, (ast.If, ast.While, ast.IfExp, ast.Assert)):
             yield node.test
@@ -87,7 +88,7 @@ def _tests_of(top: Any) -> Iterator[ast.expr]:
 
 
 def _is_on(test: ast.expr, names: Set[str]) -> bool:
-    """Whether a test reads one of the names otherwise than as the pattern or the text of a match."""
+    """Whether a test reads one of the names, except as the pattern or the text of a match."""
     left: List[ast.AST] = [test]
     while left:
         node = left.pop()

@@ -1,6 +1,6 @@
-"""Forms of a pattern that relint reads, made by leaving out or replacing what it refuses.
+"""Makes forms of a pattern that relint can read, by leaving out or replacing what relint refuses.
 
-A form doesn't match the same texts. It only serves to make texts that are then tried on the pattern itself.
+A form needn't match the same texts as the pattern. It serves only to make texts, which are then tried on the pattern itself.
 """
 from __future__ import annotations
 
@@ -26,12 +26,12 @@ NEGATIVE = ("(?!", "(?<!")
 
 
 class NotRead(Exception):
-    """The pattern can't be taken apart."""
+    """Raised if the pattern can't be taken apart, or a form of it can't be made."""
 
 
 @dataclass(frozen=True)
 class Piece:
-    """A part that isn't a group, as it is written, with its quantifier."""
+    """A part that isn't a group: its text, and its quantifier."""
 
     text: str
     quantifier: str = ""
@@ -39,7 +39,7 @@ class Piece:
 
 @dataclass(frozen=True)
 class Group:
-    """A group: how it opens, its branches, and its quantifier."""
+    """A group: its opening text `head`, such as "(?:", its branches, and its quantifier."""
 
     head: str
     branches: Tuple[Tuple["Item", ...], ...]
@@ -52,7 +52,7 @@ Branches = Tuple[Tuple[Item, ...], ...]
 
 @dataclass
 class Read:
-    """A pattern taken apart: its flags in front, its branches, and its capturing groups by number and by name."""
+    """A pattern taken apart: the letters of the flags in front, its branches, and its capturing groups by number and name."""
 
     front: str
     branches: Branches = ()
@@ -60,7 +60,7 @@ class Read:
 
 
 class _Reader:
-    """Reads a pattern that `re` takes."""
+    """Takes a pattern apart that `re` accepts. Raises NotRead for one that it can't take apart."""
 
     def __init__(self, text: str, verbose: bool) -> None:
         self.text, self.at, self.count = text, 0, 0
@@ -143,7 +143,7 @@ class _Reader:
 
 
 def written(branches: Branches) -> str:
-    """Returns the branches as a pattern."""
+    """Returns the branches as the text of a pattern."""
     return "|".join("".join(map(_written, items)) for items in branches)
 
 
@@ -162,7 +162,11 @@ class Form:
 
 
 class _Rules:
-    """The rules, applied to one pattern. `look` says what becomes of a lookaround: drop, place or mixed."""
+    """Applies the rules that loosen a pattern; `used` has the names of those that were applied.
+
+    `look` says what happens to lookaround: it is dropped (drop), its body is put in its place (place), or only negative
+    lookaround is dropped (mixed). With `few`, counts above FEW become FEW.
+    """
 
     def __init__(self, read: Read, multiline: bool, look: str, few: bool = False) -> None:
         self.read, self.multiline, self.look, self.few = read, multiline, look, few
@@ -170,7 +174,7 @@ class _Rules:
         self.size = 0
 
     def branches(self, branches: Branches, copied: int = 0) -> Branches:
-        """Returns the branches in a form that relint reads."""
+        """Returns the branches in a form that relint reads. Raises NotRead if it gets too large."""
         return tuple(tuple(it for item in items for it in self._item(item, copied)) for items in branches)
 
     def _item(self, item: Item, copied: int) -> Iterator[Item]:
@@ -227,7 +231,10 @@ class _Rules:
 
 
 def forms(pattern: Text, flags: int, is_undecided: bool = False) -> List[Form]:
-    """Returns forms of a pattern that relint refuses or can't decide, the likeliest first; none where it can't be read."""
+    """Returns forms of a pattern that relint refuses or can't decide, the most promising first.
+
+    Returns none if the pattern can't be taken apart.
+    """
     text = pattern.decode("latin-1") if isinstance(pattern, bytes) else pattern
     try:
         read = _Reader(text, bool(flags & int(re.X))).read
@@ -241,7 +248,8 @@ def forms(pattern: Text, flags: int, is_undecided: bool = False) -> List[Form]:
 
 
 def _forms(read: Read, text: str, flags: int, is_undecided: bool) -> Iterator[Form]:
-    # (what is passed over under VERBOSE isn't written any more, so a form has to be read as before but for that)
+    """Yields the forms of a pattern; some may be the same. Raises NotRead."""
+    # Flags in front are kept. Layout under VERBOSE isn't written, but a form has to be read under VERBOSE all the same.
     letters = "".join(dict.fromkeys(it for it in read.front))
     front = f"(?{letters})" if letters else ""
     multiline = bool(flags & int(re.M)) or "m" in letters
@@ -257,6 +265,7 @@ def _forms(read: Read, text: str, flags: int, is_undecided: bool) -> Iterator[Fo
 
 
 def _bodies(branches: Branches) -> Iterator[Branches]:
+    """Yields the body of each lookaround, the outer ones first."""
     for items in branches:
         for item in items:
             if isinstance(item, Group):
@@ -266,7 +275,7 @@ def _bodies(branches: Branches) -> Iterator[Branches]:
 
 
 def _parts(read: Read, front: str, multiline: bool, text: str, flags: int) -> Iterator[Form]:
-    """Parts of a pattern that relint can't decide: with smaller counts, each half, and each loop alone."""
+    """Yields smaller forms of a pattern that relint can't decide: with smaller counts, each half, and single loops."""
     few = _Rules(read, multiline, "mixed", few=True)
     yield Form(front + written(few.branches(read.branches)), tuple(few.used))
     for name, half in _halves(read.branches):
@@ -278,6 +287,7 @@ def _parts(read: Read, front: str, multiline: bool, text: str, flags: int) -> It
 
 
 def _halves(branches: Branches) -> Iterator[Tuple[str, Branches]]:
+    """Yields both halves of a pattern with their names: half of its branches, or half of the parts of its only branch."""
     if len(branches) > 1:
         middle = (len(branches) + 1) // 2
         yield "first half", branches[:middle]
@@ -293,7 +303,7 @@ def _halves(branches: Branches) -> Iterator[Tuple[str, Branches]]:
 
 
 def reads(pattern: Text, flags: int) -> Optional[str]:
-    """Returns the pattern as it is read and written again, or None where it can't be read; for tests."""
+    """Returns the pattern taken apart and written again, or None if it can't be taken apart. Serves tests."""
     text = pattern.decode("latin-1") if isinstance(pattern, bytes) else pattern
     try:
         read = _Reader(text, bool(flags & int(re.X))).read

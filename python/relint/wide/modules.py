@@ -1,4 +1,4 @@
-"""The files of a run as modules: their trees, their scopes, and which file an import names."""
+"""Reads the files of a run as modules, and finds the file that an import names."""
 from __future__ import annotations
 
 import ast
@@ -14,12 +14,12 @@ MOST_KEPT = 64
 
 
 class ModuleError(Exception):
-    """A file that can't be read as Python here; the message says why in one line."""
+    """Raised if a file can't be read as Python here; the message says why in one line."""
 
 
 @dataclass(eq=False)
 class Module:
-    """A file of the run with its text and its scopes. `lines` are those of its text with their ends."""
+    """A file of the run with its text, its syntax tree and its scopes."""
 
     path: str
     text: str
@@ -28,7 +28,7 @@ class Module:
 
 
 def parsed(path: str, text: str) -> Module:
-    """Returns the module that a text is. Raises ModuleError where the running Python doesn't parse it."""
+    """Returns the module with this text. Raises ModuleError if the running Python can't parse it."""
     try:
         with warnings.catch_warnings():
             warnings.simplefilter("ignore")
@@ -41,7 +41,7 @@ def parsed(path: str, text: str) -> Module:
 
 
 class Modules:
-    """Finds and keeps the modules of a run. `read` gives the text of a path, or raises ModuleError."""
+    """Finds the modules of a run, and keeps the last MOST_KEPT. `read` returns the text of a path or raises ModuleError."""
 
     def __init__(self, paths: Iterable[str], read: Callable[[str], str]) -> None:
         self._paths: FrozenSet[str] = frozenset(os.path.normpath(it) for it in paths)
@@ -52,21 +52,21 @@ class Modules:
             self._named.setdefault(self.name_of(path), []).append(path)
 
     def _root(self, path: str) -> str:
-        """The folder from which a file's package is imported."""
+        """The folder from which a file is imported: the nearest one above it that isn't a package."""
         folder = os.path.dirname(path)
         while os.path.join(folder, "__init__.py") in self._paths:
             folder = os.path.dirname(folder)
         return folder
 
     def name_of(self, path: str) -> str:
-        """Returns the name by which a file of the run is imported."""
+        """Returns the dotted name by which a file of the run is imported."""
         root = self._root(path)
         inside = os.path.relpath(path, root or ".") if root else path
         parts = inside[:-len(".py")].split(os.sep) if inside.endswith(".py") else [inside]
         return ".".join(parts[:-1] if parts[-1] == "__init__" else parts)
 
     def get(self, path: str) -> Optional[Module]:
-        """Returns the module at a path of the run, or None where it can't be read."""
+        """Returns the module at a path of the run, or None if it can't be read."""
         if path in self._kept:
             self._kept.move_to_end(path)
             return self._kept[path]
@@ -78,15 +78,15 @@ class Modules:
         return found
 
     def keep(self, path: str, module: Optional[Module]) -> None:
-        """Keeps a module that was parsed already."""
+        """Keeps a module that was parsed already, or None for a file that can't be read."""
         self._kept[os.path.normpath(path)] = module
         while len(self._kept) > MOST_KEPT:
             self._kept.popitem(last=False)
 
     def find(self, name: str, importer: str) -> Optional[str]:
-        """Returns the path of a module that a file imports by this name, with dots in front if it is relative.
+        """Returns the path of the module that the file `importer` imports by this name; a relative name has dots in front.
 
-        None means that it isn't a file of the run, or that several could be meant.
+        Returns None if it isn't a file of the run, or if several files could be meant.
         """
         if name.startswith("."):
             return self._relative(name, importer)
@@ -110,6 +110,6 @@ class Modules:
 
 
 def split_name(name: str) -> Tuple[str, str]:
-    """Returns a dotted name without its last part, and that part."""
+    """Splits a dotted name; returns it without its last part, and its last part."""
     front, _, last = name.rpartition(".")
     return front, last

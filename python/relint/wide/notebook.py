@@ -1,4 +1,4 @@
-"""Notebooks as sources: the code of all cells in one text, with the cell and the line that each line of it comes from."""
+"""Reads notebooks as sources: the code of all cells in one text, with the cell and the line that each line comes from."""
 from __future__ import annotations
 
 import ast
@@ -11,14 +11,15 @@ from ..sites import LINE_END
 
 
 class NotebookError(Exception):
-    """The file is no notebook; the message says why in one line."""
+    """Raised if a file isn't a notebook; the message says why in one line."""
 
 
 @dataclass(frozen=True)
 class Notebook:
-    """A notebook's code. `origins` has the cell and the line in it for each line of `text`; cells count from 1, all kinds.
+    """The code of a notebook.
 
-    `left_out` are the cells that can't be read as Python, each of which is blank in `text`.
+    `origins` has, for each line of `text`, the number of its cell and the line in that cell. Cells of all kinds count, from 1.
+    `left_out` are the cells that can't be read as Python; they are blank in `text`.
     """
 
     text: str
@@ -26,12 +27,12 @@ class Notebook:
     left_out: Tuple[int, ...]
 
     def origin(self, line: int) -> Tuple[int, int]:
-        """Returns the cell and the line in it of a line of the text."""
+        """Returns the cell from which a line of the text comes, and the line in that cell."""
         return self.origins[min(max(line, 1), len(self.origins)) - 1]
 
 
 def read_notebook(data: bytes) -> Notebook:
-    """Returns the notebook of the bytes of a file. Raises NotebookError."""
+    """Returns the notebook that the bytes of a file hold. Raises NotebookError if they hold none."""
     try:
         found = json.loads(data.decode("utf-8-sig"))
     except (ValueError, RecursionError) as error:
@@ -54,6 +55,7 @@ def read_notebook(data: bytes) -> Notebook:
 
 
 def _cells(found: Any) -> Optional[List[Any]]:
+    """The list of cells in the JSON of a notebook, in the present format or the old one; None if there is none."""
     if not isinstance(found, dict):
         return None
     if isinstance(found.get("cells"), list):
@@ -65,7 +67,7 @@ def _cells(found: Any) -> Optional[List[Any]]:
 
 
 def _code(cells: List[Any]) -> Iterator[Tuple[int, str]]:
-    """The numbers and the texts of the cells that hold code."""
+    """Yields the numbers and the texts of the cells that hold code."""
     for number, cell in enumerate(cells, 1):
         if not isinstance(cell, dict) or cell.get("cell_type") != "code":
             continue
@@ -77,7 +79,7 @@ def _code(cells: List[Any]) -> Iterator[Tuple[int, str]]:
 
 
 def _without_magic(line: str) -> str:
-    """A line, or `pass` in place of one that only a notebook understands."""
+    """The line, or `pass` with its indentation in place of a command that only a notebook understands."""
     begun = line.lstrip()
     if begun[:1] in ("%", "!", "?") or line.rstrip().endswith("?"):
         return line[:len(line) - len(begun)] + "pass"

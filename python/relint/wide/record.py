@@ -40,9 +40,9 @@ NAME = "relint-record"
 
 @dataclass
 class Recorded:
-    """What was recorded: each pattern once for each place, function and set of flags; `made` counts them by engine.
+    """What was recorded: each pattern once for each place, function and set of flags.
 
-    `left_out` counts what was above a limit, `wrong` the lines that are no notes.
+    `made` counts them by engine. `left_out` counts patterns that exceeded a limit, and `wrong` lines that can't be read.
     """
 
     found: List[Found] = field(default_factory=list)
@@ -53,7 +53,7 @@ class Recorded:
 
 
 def environment(folder: str) -> Dict[str, str]:
-    """Returns the environment of the program: that of this one, with the watch first on Python's path."""
+    """Returns the environment for the program: this one's, with the folder `watch` first on Python's path."""
     known = dict(os.environ)
     known["PYTHONPATH"] = os.pathsep.join([str(WATCH), *filter(None, [known.get("PYTHONPATH")])])
     known["RELINT_RECORD"] = folder
@@ -61,7 +61,7 @@ def environment(folder: str) -> Dict[str, str]:
 
 
 def read_notes(folder: str, below: Optional[str]) -> Recorded:
-    """Returns what the programs noted in a folder; with `below` only what files below that folder made."""
+    """Returns what the processes noted in a folder; with `below`, only the patterns that files below that folder made."""
     recorded = Recorded()
     distinct: Dict[Tuple[Any, ...], None] = {}
     for path in sorted(Path(folder).iterdir()):
@@ -82,7 +82,7 @@ def read_notes(folder: str, below: Optional[str]) -> Recorded:
 
 
 def _note(line: bytes) -> Optional[Tuple[Any, ...]]:
-    """A line of notes as its seven values, or None where it is none."""
+    """The seven values of a line of notes, or None if the line is wrong."""
     try:
         found = ast.literal_eval(line.decode("ascii"))
     except (ValueError, SyntaxError, RecursionError, MemoryError):
@@ -96,6 +96,7 @@ def _note(line: bytes) -> Optional[Tuple[Any, ...]]:
 
 
 def _found(note: Tuple[Any, ...]) -> Found:
+    """The pattern of a note without its first value; its place is the line that made it."""
     engine, name, pattern, flags, path, line = note
     call = name if name in FLAGS_AT else "compile"
     shown = os.path.relpath(path) if _is_below(path, os.getcwd()) else path
@@ -104,12 +105,13 @@ def _found(note: Tuple[Any, ...]) -> Found:
 
 
 def _is_below(path: str, folder: str) -> bool:
+    """Whether a path lies in a folder. A name such as "<string>" doesn't."""
     top = os.path.realpath(folder)
     return os.path.commonpath([os.path.realpath(path), top]) == top if os.path.isabs(path) or path[:1] != "<" else False
 
 
 def parser() -> Parser:
-    """Returns the reader of the tool's words; the command comes behind --."""
+    """Returns the parser of the tool's own options, which come before `--` and the command."""
     found = Parser(NAME, "Runs a program, notes each pattern that it gives to re or regex, and has relint judge them: "
                    "relint-record [OPTIONS] -- COMMAND ..",
                    "The exit status is 1 if there is a finding, 0 if there is none, and 2 to 6 for errors; a line says with "
@@ -133,7 +135,7 @@ def parser() -> Parser:
 
 
 def split_words(words: Sequence[str]) -> Tuple[List[str], List[str]]:
-    """Returns the tool's own words and the command behind `--`."""
+    """Returns the words before `--`, which are the tool's own, and the words after it, which are the command."""
     if "--" not in words:
         return list(words), []
     at = list(words).index("--")
@@ -141,7 +143,7 @@ def split_words(words: Sequence[str]) -> Tuple[List[str], List[str]]:
 
 
 def ran(command: Sequence[str], folder: str) -> int:
-    """Runs the command with the watch, and returns its status. Raises GatherError where it can't be run."""
+    """Runs the command with the watch, and returns its status. Raises GatherError if it can't be run."""
     try:
         process = subprocess.Popen(command, env=environment(folder))
     except (OSError, ValueError) as error:
@@ -150,12 +152,12 @@ def ran(command: Sequence[str], folder: str) -> int:
         try:
             return process.wait()
         except KeyboardInterrupt:
-            # (the program has got it too, and ends as it wants)
+            # (the program has got the signal too, and decides itself when to end)
             continue
 
 
 def judge(recorded: Recorded, given: argparse.Namespace) -> run.Result:
-    """Returns the entries of what was recorded. Raises GatherError."""
+    """Has relint judge what was recorded, and returns the entries. Raises GatherError."""
     options = (f"--max-pairs={given.max_pairs}",)
     settings = run.Settings(given.mode, given.max_degree, options, given.jobs, limits_of(given))
     try:
@@ -194,7 +196,7 @@ def _lines(given: argparse.Namespace, recorded: Recorded, result: run.Result, en
 
 
 def record(given: argparse.Namespace, command: Sequence[str]) -> int:
-    """Runs the command, writes what came of its patterns, and returns the status."""
+    """Runs the command, writes the report on its patterns, and returns the exit status. Raises GatherError."""
     if not command:
         raise gather.GatherError("give the program behind --, as in: relint-record -- pytest tests")
     with tempfile.TemporaryDirectory(prefix="relint-record-") as folder:
@@ -209,7 +211,7 @@ def record(given: argparse.Namespace, command: Sequence[str]) -> int:
 
 
 def main(words: Optional[Sequence[str]] = None) -> int:
-    """Runs the tool with the words of the command line, and answers the exit status."""
+    """Runs the tool with the words of the command line, and returns the exit status."""
     own, command = split_words(sys.argv[1:] if words is None else words)
     given = parser().parse_args(own)
     return gather.ended(NAME, lambda: record(given, command))

@@ -1,4 +1,4 @@
-"""The report of relint-wide in JSON: relint's own report with one list more, which holds what was found beyond it."""
+"""The report of relint-wide in JSON: relint's own report, with a list of what relint-wide found, and its counts."""
 from __future__ import annotations
 
 import json
@@ -20,7 +20,7 @@ def _verdict(verdict: Verdict) -> Dict[str, Any]:
 
 
 def entry_as_json(entry: Entry) -> Dict[str, Any]:
-    """Returns an entry as the values that relint's own report has for it, and what relint-wide adds."""
+    """Returns an entry as values for JSON: those that relint's own report has for it, and those that relint-wide adds."""
     found: Dict[str, Any] = {
         "path": entry.path, "kind": entry.kind, "call": entry.call, "degree": entry.degree, "limit": entry.limit,
         "over": entry.over, "cause": entry.cause,
@@ -48,7 +48,7 @@ def _places(places: Iterable[Place]) -> List[Dict[str, int]]:
 
 
 def counts_as_json(counts: Counts) -> Dict[str, Any]:
-    """Returns what was seen and folded, and what couldn't be read."""
+    """Returns the counts as values for JSON, with the files that couldn't be read."""
     return {
         "files": counts.files, "seen": counts.seen, "literal": counts.literal, "folded": counts.folded,
         "judged": counts.judged, "tables": counts.tables, "tried": counts.tried,
@@ -58,7 +58,7 @@ def counts_as_json(counts: Counts) -> Dict[str, Any]:
 
 
 def document(report: Report, counts: Counts) -> str:
-    """Returns the report on one line. `entries` and its counts are relint's own; `beyond` holds the others."""
+    """Returns the report on one line. `entries` and the counts beside it are relint's own; `beyond` has the other entries."""
     whole = {
         "entries": [entry_as_json(it) for it in own_of(report.entries)], "findings": report.findings,
         "refused": report.refused, "undecided": report.undecided, "version": 2,

@@ -1,4 +1,4 @@
-"""A run of relint-wide: relint's own report on some paths, and what is found beyond it."""
+"""A run of relint-wide: finds patterns that relint's own report doesn't judge, and has relint judge them or tries them."""
 from __future__ import annotations
 
 import os
@@ -18,11 +18,11 @@ from .look import Looked, from_json
 from .takers import own_rows
 from .tried import Hang, hangs
 
-# Causes for which relint doesn't know the pattern of a call: what is folded may be judged in place of it.
+# Causes for which relint doesn't know the pattern of a call. The folded pattern may be judged instead.
 NOT_KNOWN = frozenset((
     "not-whole", "f-string", "flags-unknown", "named-escape", "bad-escape", "mixed",
 ))
-# Causes for which relint refuses a pattern that re takes: a loosened form may show how to make it hang.
+# Causes for which relint refuses a pattern that `re` accepts. A loosened form may show how to make it hang.
 NOT_TAKEN = frozenset((
     "lookaround", "backreference", "possessive", "atomic", "conditional", "inner-anchor",
 ))
@@ -32,10 +32,11 @@ MEMORY_OF_A_FILE = 2_000_000_000
 
 @dataclass(frozen=True)
 class Settings:
-    """How a run goes: the mode of compile, the highest degree that is no finding, relint's options, the limits of trials.
+    """The settings of a run.
 
-    `takers` are the added rows of the table; files lie in one of the `folders`, or are among them. Without `limits` nothing is
-    tried.
+    `compile_as` is the mode that a call of `compile` is judged in, `max_degree` is the highest degree that isn't a finding,
+    `options` are given to relint, and `limits` are those of trials; without them nothing is tried. `takers` are the rows added
+    to the table of takers. The files lie in one of the `folders`, or are among them.
     """
 
     compile_as: str = "search"
@@ -49,11 +50,12 @@ class Settings:
 
 @dataclass
 class Counts:
-    """What was seen: places that take a pattern, those whose pattern is a literal that relint judges, those that were folded.
+    """Counts of places that take a pattern. A place in a loop may have several patterns, and counts once.
 
-    `folded` counts places whose pattern isn't a literal and was folded, `judged` those of them where each pattern has a class,
-    `tables` what the table of takers found beside `re`; `unknown` counts the reasons why others weren't folded. A place in a
-    loop may have several patterns.
+    `seen` counts all places; `literal` those whose pattern relint reads itself; `folded` those whose pattern isn't a literal
+    but is known; `judged` those of them whose patterns all get a class; `tables` those that only the table of takers finds.
+    `tried` counts patterns that may be tried, and `unknown` counts the reasons why patterns aren't known. `unread` has the
+    files and cells that can't be read, with the reasons.
     """
 
     files: int = 0
@@ -69,14 +71,17 @@ class Counts:
 
 @dataclass
 class Result:
-    """What a run found beyond relint's own entries."""
+    """The entries that a run found besides relint's own, and the counts."""
 
     entries: Tuple[Entry, ...]
     counts: Counts
 
 
 def look_at(paths: Sequence[str], settings: Settings) -> List[Looked]:
-    """Returns what each file holds, as children read it. One that can't be read has the reason."""
+    """Returns what child processes find in each file, or why a file can't be read.
+
+    A file that has no pattern but may bind a name that a pattern needs comes again at the end, with what it binds.
+    """
     begin = {"paths": list(paths), "takers": [*own_rows(), *settings.takers], "folders": list(settings.folders)}
     crew = Crew(begin, settings.jobs, SECONDS_OF_A_FILE, MEMORY_OF_A_FILE)
     answers = crew.answers([{"path": it} for it in paths])
@@ -88,7 +93,7 @@ def look_at(paths: Sequence[str], settings: Settings) -> List[Looked]:
 
 
 def bound_elsewhere(looked: Iterable[Looked]) -> Callable[[Found], bool]:
-    """Returns whether something that a pattern was folded from is bound again, in another file or by a class below."""
+    """Returns a function that says whether a name that a pattern needs is bound again: in another file, or in a subclass."""
     binds: Set[Tuple[str, str]] = set()
     below: Dict[str, Set[str]] = {}
     for it in looked:
@@ -103,7 +108,7 @@ def bound_elsewhere(looked: Iterable[Looked]) -> Callable[[Found], bool]:
 
 
 def _is_bound_below(need: Tuple[str, str], binds: Set[Tuple[str, str]], below: Mapping[str, Set[str]]) -> bool:
-    """Whether a class that comes from the one that is named binds the attribute."""
+    """Whether `need` is an attribute of a class that the class or one of its subclasses binds elsewhere."""
     where, name = need
     if not where.startswith("class "):
         return False
@@ -119,7 +124,7 @@ def _is_bound_below(need: Tuple[str, str], binds: Set[Tuple[str, str]], below: M
 
 
 class _Run:
-    """One run."""
+    """One run, with its counts and relint's own entries by their places."""
 
     def __init__(self, own: Sequence[Entry], settings: Settings) -> None:
         self.settings = settings
@@ -127,7 +132,10 @@ class _Run:
         self.own = {(it.path, it.place): it for it in own if it.place is not None}
 
     def candidates(self, looked: Sequence[Looked]) -> Iterator[Tuple[Found, Optional[Entry]]]:
-        """Yields what was found with its pattern, each with relint's own entry at its place, if there is one."""
+        """Yields each pattern that is known, with relint's own entry at its place or None if there is none.
+
+        Counts what was seen, what isn't known and what can't be read.
+        """
         is_bound = bound_elsewhere(looked)
         for one in looked:
             if one.why:
@@ -141,7 +149,7 @@ class _Run:
                     yield found, self.own.get((found.path, found.start))
 
     def found(self, looked: Sequence[Looked]) -> Tuple[Entry, ...]:
-        """Returns the entries beyond relint's own."""
+        """Returns the entries that are found besides relint's own."""
         elsewhere: List[Found] = []
         refused: List[Tuple[Found, Entry]] = []
         for found, entry in self.candidates(looked):
@@ -155,7 +163,10 @@ class _Run:
         return self.judged(elsewhere, refused)
 
     def judged(self, elsewhere: Sequence[Found], refused: Sequence[Tuple[Found, Entry]]) -> Tuple[Entry, ...]:
-        """Returns the entries of what relint has no verdict on; `refused` has what it refused itself."""
+        """Returns the entries of patterns that relint didn't judge in its own report.
+
+        relint judges those in `elsewhere`. Those in `refused` come with relint's own entry, and are only tried.
+        """
         answers = judged(map(self.question, elsewhere), self.settings.options, self.settings.jobs)
         made = [(it, answers[self.question(it)]) for it in elsewhere]
         wanting = {place_of(found) for found, entry in made if not entry.is_judged()}
@@ -164,7 +175,7 @@ class _Run:
         return (*entries, *self.hung([*refused, *made]))
 
     def question(self, found: Found) -> Question:
-        """Returns what is asked of relint."""
+        """Returns the question to relint about a pattern that is known."""
         assert found.pattern is not None
         return Question(found.pattern, found.flags or 0, mode_of(found.call, self.settings.compile_as))
 
@@ -181,7 +192,7 @@ class _Run:
         return [self.entry(it, hang.entry, HANG, hang) for it, hang in its if hang is not None]
 
     def entry(self, found: Found, judged_as: Entry, kind: str, hang: Optional[Hang] = None) -> Entry:
-        """Returns the entry of a report."""
+        """Returns the entry for the report: `judged_as` at the place of the pattern, with what relint-wide knows of it."""
         question = self.question(found)
         held = tuple(Holder(it.name, it.path, it.line) for it in found.held)
         beyond = Beyond(
@@ -193,21 +204,22 @@ class _Run:
 
 
 def place_of(found: Found) -> Tuple[Any, ...]:
-    """Returns what tells the place of a pattern from others; the patterns of a loop have one place."""
+    """Returns a key for the place of a pattern; several patterns of one loop have the same place."""
     return found.path, found.cell, found.start, found.taker
 
 
 def _places(found: Iterable[Found]) -> int:
+    """How many different places there are."""
     return len({place_of(it) for it in found})
 
 
 def is_to_be_tried(entry: Entry) -> bool:
-    """Whether relint refused the pattern for what `re` takes, or left it undecided."""
+    """Returns whether relint left the pattern undecided, or refused it for something that `re` accepts."""
     return entry.kind == "undecided" or (entry.kind == "refused" and entry.cause in NOT_TAKEN)
 
 
 def run(paths: Sequence[str], own: Sequence[Entry], settings: Settings) -> Result:
-    """Returns what is found in files beyond relint's own entries. Raises JudgeError and ProgramError."""
+    """Returns what is found in the files besides `own`, relint's own entries. Raises JudgeError and ProgramError."""
     one = _Run(own, settings)
     one.counts.files = len(paths)
     entries = one.found(look_at(paths, settings))
@@ -215,14 +227,14 @@ def run(paths: Sequence[str], own: Sequence[Entry], settings: Settings) -> Resul
 
 
 def judge_found(found: Sequence[Found], settings: Settings) -> Result:
-    """Returns the entries of patterns that are known. Raises JudgeError and ProgramError."""
+    """Returns the entries of patterns that were found in another way. Raises JudgeError and ProgramError."""
     one = _Run((), settings)
     one.counts.seen = one.counts.folded = len(found)
     return Result(one.judged(found, ()), one.counts)
 
 
 def files_below(paths: Sequence[str]) -> Iterator[str]:
-    """Yields the Python files and the notebooks below paths, sorted, without links; a named file is taken as it is."""
+    """Yields the Python files and notebooks below folders, sorted, without links; a path that isn't a folder is kept."""
     for path in paths:
         if not os.path.isdir(path) or os.path.islink(path):
             yield path

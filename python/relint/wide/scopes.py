@@ -1,6 +1,6 @@
-"""Which names the scopes of a source bind, and to what: by the rules of `scoping`, without running anything.
+"""Finds which names the scopes of a source bind, and to what, by the rules of `scoping` and without running anything.
 
-`read_scopes` walks over a parsed source once. It needs no stack for deep sources.
+`read_scopes` walks over a parsed source once. It doesn't recurse, so deep sources are no problem.
 """
 from __future__ import annotations
 
@@ -14,18 +14,19 @@ CHANGING = frozenset((
     "append", "extend", "insert", "remove", "pop", "clear", "sort", "reverse", "update", "setdefault", "popitem", "add",
     "discard",
 ))
-# What gives an object that it holds, or the items of one.
+# Methods and functions that return an object that another one holds, or go through the items of one.
 GIVING = frozenset(("get", "items", "iter", "enumerate", "next", "pop", "popitem", "reversed", "setdefault", "values", "zip"))
 
 
 @dataclass(frozen=True)
 class Binding:
-    """One binding of a name. `kind` is value, import, class, function, parameter, or a word for what can't be followed.
+    """One binding of a name. `kind` is value, import, class, function, parameter, loop, or a word for one that isn't followed.
 
-    `node` is the expression that gives the value, or the class; `scope` is the one that reads it. For an import, `module` is
-    the module with the dots before it, and `member` what is taken from it, or None for the module itself. `inside` is the
-    scope of a class's body. For the variable of a loop, `loop` is the loop, `node` what it goes through, and `part` leads from
-    an item to the variable: the number of a part, and how many parts there are.
+    `node` is the expression that gives the value, or the class or function; `scope` is the scope in which it is read. For an
+    import, `module` is the module with the dots before it, and `member` is the name that is imported from it, or None for the
+    module itself. `inside` is the scope of the body of a class or function. For the variable of a loop, `loop` is the loop,
+    `node` is what it goes through, and `part` says how an item is unpacked down to the variable: for each step the number of
+    the part, and how many parts there are.
     """
 
     kind: str
@@ -45,7 +46,7 @@ Scope = scoping.Scope[Binding]
 
 @dataclass(frozen=True)
 class Store:
-    """An assignment to an attribute: `base.name = value`; `value` is None where it isn't a plain one."""
+    """An assignment to an attribute: `base.name = value`. `value` is None if no expression gives the value."""
 
     name: str
     base: ast.AST
@@ -56,10 +57,12 @@ class Store:
 
 @dataclass
 class Scopes:
-    """What was read of a source: its module's scope, its calls and classes, and what is changed in place.
+    """What was found in a source: the scope of the module, the calls, the classes, and what is changed in place.
 
-    `imported` has the first names of modules that are imported anywhere; `is_open` says that names may be bound by their text.
-    `aliases` are pairs of names: the first may hold the object of the second, or an item of it.
+    `imported` has the first part of the name of each module that is imported anywhere. `is_open` says that names of the module
+    may be bound by their text, as by `globals()["name"] = ..`. `aliases` are pairs of names: the first may hold the object
+    that the second holds, or an item of it. `stars` are the modules of star imports with their lines. `inner` has the scope of
+    each node that has one of its own.
     """
 
     module: Scope
@@ -75,14 +78,14 @@ class Scopes:
     _changed_names: Optional[Set[str]] = None
 
     def changed_names(self) -> Set[str]:
-        """Returns the names and attributes whose values are changed in place somewhere in the source, by an alias too."""
+        """Returns the names and attributes whose values may be changed in place somewhere in the source, also by an alias."""
         if self._changed_names is None:
             self._changed_names = _with_sources({root_name(node) for node, _ in self.changed}, self.aliases)
         return self._changed_names
 
 
 def _with_sources(names: Set[str], aliases: List[Tuple[str, str]]) -> Set[str]:
-    """Names, and those whose objects they may hold."""
+    """Adds to the names those whose objects they may hold, directly or by other aliases; returns the same set."""
     sources: Dict[str, List[str]] = {}
     for alias, source in aliases:
         sources.setdefault(alias, []).append(source)
@@ -95,7 +98,10 @@ def _with_sources(names: Set[str], aliases: List[Tuple[str, str]]) -> Set[str]:
 
 
 def root_name(node: Optional[ast.AST]) -> str:
-    """Returns the name, or the attribute, whose object an expression gives, or of whose items it gives one; "" if none."""
+    """Returns the name or attribute whose object, or an item of whose object, is the value of an expression.
+
+    Returns "" if there is no such name.
+    """
     while True:
         if isinstance(node, (ast.Subscript, ast.Starred)):
             node = node.value
@@ -108,13 +114,17 @@ def root_name(node: Optional[ast.AST]) -> str:
 
 
 def last_name(node: ast.AST) -> str:
-    """Returns the last part of a dotted name, called or not; "" for what is no name."""
+    """Returns the last part of a dotted name, or of the name that is called; "" if the expression isn't a name."""
     named = node.func if isinstance(node, ast.Call) else node
     return named.attr if isinstance(named, ast.Attribute) else named.id if isinstance(named, ast.Name) else ""
 
 
 class _Reader:
-    """Walks over a tree with a list of what is still to be read: a node, its scope, and whether it may be passed by."""
+    """Walks over a tree with a stack of what is still to be read.
+
+    Each item of the stack is a node, its scope, and whether the node is conditional: it may not be run when its scope is. The
+    methods in READERS each read one kind of node, and put its parts on the stack.
+    """
 
     def __init__(self, tree: ast.Module) -> None:
         self.found = Scopes(Scope("module", tree))
@@ -148,11 +158,11 @@ class _Reader:
         self.left += [(it, scope, inside) for it in reversed(found)]
 
     def bind(self, name: str, binding: Binding, scope: Scope) -> None:
-        """Notes a binding. What `global` and `nonlocal` say is known only once all is read."""
+        """Notes a binding. Its scope is settled at the end, once all `global` and `nonlocal` have been read."""
         self.bound.append((scope, name, binding))
 
     def target(self, node: ast.AST, value: Optional[ast.AST], scope: Scope, kind: str, conditional: bool) -> None:
-        """Reads what an assignment binds; parts of a pair or a list go with the parts of a value of the same form."""
+        """Reads a target of an assignment. The parts of a tuple or a list get the parts of a value of the same form."""
         if isinstance(node, ast.Name):
             known = "value" if value is not None else kind
             self.bind(node.id, Binding(known, node.lineno, value, scope, conditional=conditional), scope)
@@ -172,13 +182,13 @@ class _Reader:
             self._put([node.value, node.slice], scope, conditional)
 
     def _alias(self, name: str, value: Optional[ast.AST]) -> None:
-        """Notes whose object, or whose items, a name may hold from now on."""
+        """Notes that a name may hold the object, or an item of the object, that `value` takes from another name."""
         source = root_name(value)
         if source and source != name:
             self.found.aliases.append((name, source))
 
     def _loop_target(self, node: ast.AST, loop: Any, outside: Scope, scope: Scope, part: Tuple[Tuple[int, int], ...]) -> None:
-        """Reads what a loop binds, with the way from an item to each variable."""
+        """Reads a target of a loop; `part` says how an item is unpacked down to it. The loop's items are read in `outside`."""
         if isinstance(node, ast.Name):
             binding = Binding("loop", node.lineno, loop.iter, outside, conditional=True, loop=loop, part=part)
             self.bind(node.id, binding, scope)
@@ -190,33 +200,40 @@ class _Reader:
             self.target(node, None, scope, "loop", True)
 
     def _open_if_globals(self, node: ast.AST, scope: Scope) -> None:
-        """Notes that names of the module may be bound by their text: by globals(), or outside of functions by locals() too."""
+        """Notes that names of the module may be bound by their text if a node is a call of `globals`.
+
+        At the top level of the module, `vars` and `locals` count too.
+        """
         if isinstance(node, ast.Call) and isinstance(node.func, ast.Name) and not node.args:
             if node.func.id == "globals" or (node.func.id in ("vars", "locals") and scope.kind == "module"):
                 self.found.is_open = True
 
     def function(self, node: Any, scope: Scope, conditional: bool) -> None:
-        """A function: its head is read outside, its body in a scope of its own."""
-        inside = self._inner("function", node, scope, conditional)
+        """Reads a function: its head in the scope around it, its body in a scope of its own."""
+        inside = self._open_scope("function", node, scope, conditional)
         if not isinstance(node, ast.Lambda):
             self.bind(node.name, Binding("function", node.lineno, node, scope, inside=inside, conditional=conditional), scope)
         for it in scoping.parameters(node):
             self.bind(it.arg, Binding("parameter", it.lineno, it, scope), inside)
 
     def class_(self, node: ast.ClassDef, scope: Scope, conditional: bool) -> None:
-        """A class: its bases are read outside, its body in a scope that its methods don't see."""
-        inside = self._inner("class", node, scope, conditional)
+        """Reads a class: its bases in the scope around it, its body in a scope of its own that its methods don't see."""
+        inside = self._open_scope("class", node, scope, conditional)
         self.found.classes.append((node, scope))
         self.bind(node.name, Binding("class", node.lineno, node, scope, inside=inside, conditional=conditional), scope)
 
     def comprehension(self, node: Any, scope: Scope, conditional: bool) -> None:
-        """A comprehension: the first sequence is read outside, all else in a scope of its own."""
-        inside = self._inner("comprehension", node, scope, conditional)
+        """Reads a comprehension: what its first loop goes through in the scope around it, the rest in a scope of its own."""
+        inside = self._open_scope("comprehension", node, scope, conditional)
         for number, it in enumerate(node.generators):
             self._loop_target(it.target, it, scope if number == 0 else inside, inside, ())
 
-    def _inner(self, kind: str, node: ast.AST, scope: Scope, conditional: bool) -> Scope:
-        """The scope that a node has of its own. What is read inside of it is always read when it is, but in comprehensions."""
+    def _open_scope(self, kind: str, node: ast.AST, scope: Scope, conditional: bool) -> Scope:
+        """Creates the scope of a node, and queues the parts of the node for reading.
+
+        Parts that belong outside are read in `scope`. Parts inside count as conditional only in a comprehension, where they
+        may be run any number of times, or never.
+        """
         inside = self.found.inner[node] = Scope(kind, node, scope)
         for part in reversed(list(scoping.parts(node))):
             # (the targets of a comprehension are read by `_loop_target`)
@@ -225,18 +242,18 @@ class _Reader:
         return inside
 
     def type_name(self, node: Any, scope: Scope, conditional: bool) -> None:
-        """A type parameter."""
+        """Reads a type parameter."""
         self.bind(node.name, Binding("type parameter", node.lineno), scope)
         self._children(node, scope, conditional)
 
     def assign(self, node: ast.Assign, scope: Scope, conditional: bool) -> None:
-        """An assignment, to one target or several."""
+        """Reads an assignment to one target or several."""
         for it in node.targets:
             self.target(it, node.value, scope, "value", conditional)
         self._put([node.value], scope, conditional)
 
     def annotated(self, node: ast.AnnAssign, scope: Scope, conditional: bool) -> None:
-        """An assignment with a type; without a value it only makes the name one of its scope."""
+        """Reads an assignment with a type. Without a value it only makes the name local to its function."""
         if node.value is not None:
             self.target(node.target, node.value, scope, "value", conditional)
         elif isinstance(node.target, ast.Name) and scope.kind == "function":
@@ -244,56 +261,56 @@ class _Reader:
         self._put([node.value, node.annotation], scope, conditional)
 
     def augmented(self, node: ast.AugAssign, scope: Scope, conditional: bool) -> None:
-        """An assignment as `+=`."""
+        """Reads an augmented assignment, such as `+=`."""
         self.target(node.target, None, scope, "changed", conditional)
         if isinstance(node.target, (ast.Name, ast.Attribute)):
             self.found.changed.append((node.target, scope))
         self._put([node.value], scope, conditional)
 
     def walrus(self, node: ast.NamedExpr, scope: Scope, conditional: bool) -> None:
-        """`(name := value)`, which a comprehension binds outside of itself."""
+        """Reads `(name := value)`, which inside a comprehension binds the name in the scope around the comprehension."""
         self.bind(node.target.id, Binding("walrus", node.lineno, node.value, scope, conditional=True), scope.around())
         self._put([node.value], scope, conditional)
 
     def loop(self, node: Any, scope: Scope, conditional: bool) -> None:
-        """A `for` loop."""
+        """Reads a `for` loop."""
         self._loop_target(node.target, node, scope, scope, ())
         self._put([node.iter], scope, conditional)
         self._put([*node.body, *node.orelse], scope, True)
 
     def with_item(self, node: ast.withitem, scope: Scope, conditional: bool) -> None:
-        """An item of `with`."""
+        """Reads an item of `with`."""
         if node.optional_vars is not None:
             self.target(node.optional_vars, None, scope, "with", conditional)
         self._put([node.context_expr], scope, conditional)
 
     def handler(self, node: ast.ExceptHandler, scope: Scope, conditional: bool) -> None:
-        """An `except` clause, whose name is bound and deleted."""
+        """Reads an `except` clause."""
         if node.name:
             self.bind(node.name, Binding("except", node.lineno), scope)
         self._put([node.type, *node.body], scope, True)
 
     def capture(self, node: Any, scope: Scope, conditional: bool) -> None:
-        """A part of a `case` that binds a name."""
+        """Reads a part of a `case` that may bind a name."""
         name = scoping.named_by_text(node)
         if name:
             self.bind(name, Binding("match", node.lineno), scope)
         self._children(node, scope, True)
 
     def deleted(self, node: ast.Delete, scope: Scope, conditional: bool) -> None:
-        """`del`, which counts as a binding that can't be followed."""
+        """Reads `del`, which counts as a binding that can't be followed."""
         for it in node.targets:
             self.target(it, None, scope, "deleted", conditional)
 
     def imports(self, node: ast.Import, scope: Scope, conditional: bool) -> None:
-        """`import a.b` binds `a`, and with `as` the module itself."""
+        """Reads an import: `import a.b` binds `a` to the module `a`, and `import a.b as c` binds `c` to `a.b`."""
         for name, it in scoping.imported(node):
             self.found.imported.add(it.name.split(".")[0])
             module = it.name if it.asname else name
             self.bind(name, Binding("import", node.lineno, module=module, conditional=conditional), scope)
 
     def imports_from(self, node: ast.ImportFrom, scope: Scope, conditional: bool) -> None:
-        """`from .a import b`, and the star."""
+        """Reads `from .a import b`, or `from .a import *`."""
         module = "." * node.level + (node.module or "")
         self.found.imported.add(module.split(".")[0])
         self.found.stars += [(module, node.lineno) for it in node.names if it.name == "*"]
@@ -302,11 +319,11 @@ class _Reader:
             self.bind(name, binding, scope)
 
     def outer(self, node: Any, scope: Scope, conditional: bool) -> None:
-        """`global` and `nonlocal`."""
+        """Reads `global` or `nonlocal`."""
         scope.declare(node)
 
     def call(self, node: ast.Call, scope: Scope, conditional: bool) -> None:
-        """A call, which is noted; some change what they are called on."""
+        """Reads a call. Calls that change an object in place, or that set names or attributes by their text, are noted."""
         self.found.calls.append((node, scope))
         function = node.func
         if isinstance(function, ast.Attribute) and function.attr in CHANGING:
@@ -320,17 +337,18 @@ class _Reader:
         self._children(node, scope, conditional)
 
     def _set_by_name(self, node: ast.Call, scope: Scope) -> None:
+        """Notes the attribute that a call of `setattr` or `delattr` sets, if its name is a constant."""
         name = node.args[1]
         if isinstance(name, ast.Constant) and isinstance(name.value, str):
             self.found.stores.setdefault(name.value, []).append(Store(name.value, node.args[0], scope, None, node.lineno))
 
     def alias(self, node: Any, scope: Scope, conditional: bool) -> None:
-        """`type X = ..`"""
+        """Reads a type alias, `type X = ..`."""
         self.target(node.name, None, scope, "type", conditional)
 
 
 def _parts(targets: List[ast.expr], value: Optional[ast.AST]) -> List[Optional[ast.AST]]:
-    """The parts of a value that go with targets, or as many None."""
+    """The part of a value for each target, or None for each if their numbers differ or a star is among them."""
     if isinstance(value, (ast.Tuple, ast.List)) and len(value.elts) == len(targets):
         if not any(isinstance(it, ast.Starred) for it in [*targets, *value.elts]):
             return list(value.elts)
@@ -340,7 +358,7 @@ def _parts(targets: List[ast.expr], value: Optional[ast.AST]) -> List[Optional[a
 CONDITIONAL = tuple(
     getattr(ast, name) for name in ("If", "While", "Try", "TryStar", "match_case", "IfExp", "BoolOp") if hasattr(ast, name)
 )
-# Nodes below which nothing is bound or called.
+# Kinds of nodes below which nothing is bound or called.
 LEAVES = frozenset(
     kind for kind in vars(ast).values()
     if isinstance(kind, type) and (
@@ -362,5 +380,5 @@ READERS: Dict[str, Callable[[_Reader, Any, Scope, bool], None]] = {
 
 
 def read_scopes(tree: ast.Module) -> Scopes:
-    """Returns what a parsed source binds, calls and changes."""
+    """Returns what a parsed source binds, calls and changes in place."""
     return _Reader(tree).read()

@@ -1,4 +1,4 @@
-"""The table of who takes a pattern: the package's own rows, and those of `[tool.relint.wide]`."""
+"""The table of functions and classes that take a pattern: the package's own rows, and those of `[tool.relint.wide]`."""
 from __future__ import annotations
 
 from dataclasses import dataclass
@@ -13,7 +13,7 @@ LARGEST_TABLE = 1_048_576
 TABLE = Path(__file__).with_name("takers.toml")
 MODES = ("search", "match", "fullmatch")
 SHAPES = ("text", "tokens", "rules")
-# The kind of each key's value; a list is of texts.
+# The type of each key's value. The items of a list are texts.
 KEYS: Mapping[str, type] = {
     "call": list, "method": str, "class": list, "attribute": str, "shape": str, "pattern": int, "keyword": list, "flags": int,
     "flags-keyword": str, "always": list, "mode": str, "needs": str, "when": dict, "unless": dict, "note": str, "engine": str,
@@ -22,12 +22,12 @@ KEYS: Mapping[str, type] = {
 
 
 class TakersError(Exception):
-    """A row of the table is wrong; the message names the row and what is wrong with it."""
+    """Raised if a row of the table is wrong; the message names the row and what is wrong with it."""
 
 
 @dataclass(frozen=True)
 class Taker:
-    """A row of the table: something that takes a pattern."""
+    """A row of the table: a function, a method or an attribute that takes a pattern."""
 
     name: str
     mode: str
@@ -50,25 +50,25 @@ class Taker:
 
 
 def own_rows() -> List[Mapping[str, Any]]:
-    """Returns the rows of the package as they are written."""
+    """Returns the package's own rows as they are in its TOML file."""
     rows: List[Mapping[str, Any]] = read_toml(TABLE.read_text(encoding="utf-8"))["taker"]
     return rows
 
 
 def own_takers() -> Tuple[Taker, ...]:
-    """Returns the rows of the package."""
+    """Returns the package's own rows."""
     return takers_of(own_rows())
 
 
 def takers_of(rows: Sequence[Mapping[str, Any]]) -> Tuple[Taker, ...]:
-    """Returns rows as they are used. Raises TakersError for a wrong one."""
+    """Returns the takers that rows of TOML describe. Raises TakersError if a row is wrong."""
     return tuple(taker_of(row, f"row {number} of takers") for number, row in enumerate(rows, 1))
 
 
 def read_takers(file: str) -> Tuple[List[Mapping[str, Any]], List[str]]:
     """Returns the right rows of a file, and a line for each wrong one. Raises TakersError if the file can't be read.
 
-    The rows are the file's own list `taker`, or that of its table `[tool.relint.wide]`.
+    The rows are the list `taker` of the file or, if it has none, of its table `[tool.relint.wide]`.
     """
     try:
         found = read_toml(read_named(file, LARGEST_TABLE).decode("utf-8"))
@@ -82,7 +82,7 @@ def read_takers(file: str) -> Tuple[List[Mapping[str, Any]], List[str]]:
 
 
 def right_rows(rows: Any, where: str) -> Tuple[List[Mapping[str, Any]], List[str]]:
-    """Returns the right rows of a list, and a line for each wrong one; `where` names the file that they are from."""
+    """Returns the right rows of a list, and a line for each wrong one. `where` names the file that the rows are from."""
     right: List[Mapping[str, Any]] = []
     wrong: List[str] = []
     for number, row in enumerate(rows if isinstance(rows, list) else [rows], 1):
@@ -95,7 +95,7 @@ def right_rows(rows: Any, where: str) -> Tuple[List[Mapping[str, Any]], List[str
 
 
 def taker_of(row: Any, place: str) -> Taker:
-    """Returns the row. Raises TakersError with its place."""
+    """Returns the taker that a row of TOML describes. Raises TakersError, which names `place`, if the row is wrong."""
     if not isinstance(row, dict):
         raise TakersError(f"{place} is no table")
     for key, value in row.items():
@@ -112,6 +112,7 @@ def taker_of(row: Any, place: str) -> Taker:
 
 
 def _check_key(key: str, value: Any, place: str) -> None:
+    """Raises TakersError if a key isn't known, or if its value has the wrong type."""
     kind = KEYS.get(key)
     if kind is None:
         raise TakersError(f"{place} has a key that isn't known: {key}")
@@ -122,6 +123,7 @@ def _check_key(key: str, value: Any, place: str) -> None:
 
 
 def _made(row: Dict[str, Any], place: str) -> Taker:
+    """The taker of a row whose keys and values are right. Raises TakersError for an unknown flag."""
     always = 0
     for it in row.get("always", []):
         if it not in NAMES:

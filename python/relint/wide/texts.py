@@ -1,4 +1,7 @@
-"""What operations on known texts give: only those whose result is the same on each Python, and of a bounded size."""
+"""The results of operations on known texts, if they are the same on each version of Python and not too large.
+
+Each public function returns the result of one operation. It raises NotKnown if the result can't be told or is too large.
+"""
 from __future__ import annotations
 
 import re
@@ -11,7 +14,7 @@ from .known import Sequence as KnownSequence
 Text = Union[str, bytes]
 PERCENT = re.compile(r"%(?:\(([^()]*)\))?(.)", re.S)
 FIELD = re.compile(r"\{\{|\}\}|\{([^{}!:]*)(![rs])?(:)?\}|[{}]")
-# A text of the same kind as one that isn't known: `re.escape` of anything is a plain word for a pattern.
+# Texts to put in place of unknown ones that were escaped by `re.escape`: for a pattern, these are just plain words.
 STAND_INS = ("word", "text")
 
 
@@ -30,7 +33,7 @@ def plus(left: Known, right: Known) -> Known:
 
 
 def times(left: Known, right: Known) -> Known:
-    """Returns a text, a sequence or a number taken some times."""
+    """Returns the product of a text or a sequence and a number, or of two numbers."""
     one, other = (right.value, left.value) if isinstance(left.value, int) else (left.value, right.value)
     if not isinstance(other, int) or isinstance(other, bool):
         raise NotKnown("product of other kinds")
@@ -46,19 +49,20 @@ def times(left: Known, right: Known) -> Known:
 
 
 def _check_product(size: int, count: int) -> None:
+    """Raises NotKnown if `count` times `size` items are too many."""
     if size * max(count, 0) > LONGEST_TEXT:
         raise NotKnown("too large")
 
 
 def either(left: Known, right: Known) -> Known:
-    """Returns `left | right` of two numbers, as of flags."""
+    """Returns `left | right` for two numbers, such as flags."""
     if isinstance(left.value, int) and isinstance(right.value, int):
         return made(left.value | right.value, (left, right))
     raise NotKnown("| of other kinds")
 
 
 def shown(part: Known, represented: bool = False) -> str:
-    """Returns what formatting puts for a value."""
+    """Returns the text that formatting gives for a value: `str` of it, or `repr` if it is to be `represented`."""
     value = part.value
     if isinstance(value, str):
         if represented and not value.isascii():
@@ -70,7 +74,7 @@ def shown(part: Known, represented: bool = False) -> str:
 
 
 def percent(left: Known, right: Known) -> Known:
-    """Returns `left % right` for the conversions s, d, i, r (b for bytes) and %, without a width."""
+    """Returns `left % right` if the conversions are s, d, i, r (b instead of r for bytes) or %, without a width."""
     form, value = left.value, right.value
     is_bytes = isinstance(form, bytes)
     if not isinstance(form, (str, bytes)) or (is_bytes and isinstance(value, Table)):
@@ -84,6 +88,7 @@ def percent(left: Known, right: Known) -> Known:
 
 
 def _percents(form: str, parts: List[Known], table: Any, is_bytes: bool) -> Iterator[Union[str, Tuple[str, Known]]]:
+    """Yields the pieces of a text formatted by `%`: plain texts, and formatted ones with the part that they come from."""
     at = taken = 0
     for found in PERCENT.finditer(form):
         yield form[at:found.start()]
@@ -123,7 +128,7 @@ def _numbered(parts: Sequence[Known], number: int) -> Known:
 
 
 def formatted(form: Known, parts: Sequence[Known], named: Dict[str, Known]) -> Known:
-    """Returns `form.format(*parts, **named)` for fields that are a name, a number or empty, without a form of their own."""
+    """Returns `form.format(*parts, **named)` if each field is a name, a number or empty, and has no format of its own."""
     text = form.value
     if not isinstance(text, str):
         raise NotKnown("format of other kinds")
@@ -179,7 +184,7 @@ def escaped(part: Known) -> Known:
 
 
 def stand_in(is_bytes: bool, words: str, count: int = 1) -> Tuple[Known, ...]:
-    """Returns texts in place of ones of which only the kind is known."""
+    """Returns `count` texts to put in place of unknown ones that were escaped; a note says so, and names them by `words`."""
     note = f"with {' and '.join(repr(it) for it in STAND_INS[:count])} for {words}"
     values: List[Text] = [it.encode("ascii") if is_bytes else it for it in STAND_INS[:count]]
     return tuple(Known(it, notes=(note,)) for it in values)
@@ -194,6 +199,7 @@ def dedented(part: Known) -> Known:
 
 
 def _replaced(text: Any, parts: Sequence[Any]) -> Any:
+    """The result of `text.replace(*parts)`."""
     if len(parts) != 2 or type(parts[0]) is not type(text) or type(parts[1]) is not type(text):
         raise NotKnown("method that isn't followed")
     if len(text) + (text.count(parts[0]) + 1) * len(parts[1]) > LONGEST_TEXT:
@@ -202,7 +208,7 @@ def _replaced(text: Any, parts: Sequence[Any]) -> Any:
 
 
 def _coded(text: Any, parts: Sequence[Any]) -> Any:
-    """Encodes a str or decodes bytes, as UTF-8, ASCII or Latin-1 and with strict errors. Raises NotKnown for any other."""
+    """Encodes a str or decodes bytes as UTF-8, ASCII or Latin-1, with strict errors. Raises NotKnown for other codings."""
     coding = (parts[0] if parts else "utf-8").lower() if not parts or isinstance(parts[0], str) else ""
     if len(parts) > 1 or coding not in ("utf-8", "utf8", "ascii", "latin-1", "latin1", "iso-8859-1"):
         raise NotKnown("method that isn't followed")
@@ -213,6 +219,7 @@ def _coded(text: Any, parts: Sequence[Any]) -> Any:
 
 
 def _plain(name: str) -> Callable[[Any, Sequence[Any]], Any]:
+    """A function that calls the method `name`, which takes no argument or, if it strips, one text."""
     def call(text: Any, parts: Sequence[Any]) -> Any:
         if len(parts) > 1 or any(type(it) is not type(text) for it in parts) or (parts and "strip" not in name):
             raise NotKnown("method that isn't followed")
@@ -220,7 +227,7 @@ def _plain(name: str) -> Callable[[Any, Sequence[Any]], Any]:
     return call
 
 
-# Methods of texts whose result is a text; lower and upper only for ASCII, as tables of letters differ between Pythons.
+# Methods of texts whose result is a text. `lower` and `upper` are only for ASCII, since versions of Python differ in others.
 METHODS: Dict[str, Callable[[Any, Sequence[Any]], Any]] = {
     "replace": _replaced, "encode": _coded, "decode": _coded,
     **{name: _plain(name) for name in ("strip", "lstrip", "rstrip", "lower", "upper")},
@@ -228,7 +235,7 @@ METHODS: Dict[str, Callable[[Any, Sequence[Any]], Any]] = {
 
 
 def method(name: str, subject: Known, parts: Sequence[Known]) -> Known:
-    """Returns what a method of a text gives. Raises NotKnown for a method or for arguments that aren't followed."""
+    """Returns the result of a method of a text. Raises NotKnown if the method or its arguments aren't supported."""
     call = METHODS.get(name)
     text = subject.text()
     if call is None or (name in ("lower", "upper") and not text.isascii()):

@@ -1,6 +1,6 @@
-"""Tries patterns that relint refuses or can't decide on this Python, with texts that come from loosened forms of them.
+"""Tries patterns that relint refuses or can't decide, with this Python and on texts made from loosened forms of them.
 
-Nothing here is proved: what is shown was seen, on one Python, on one machine.
+Nothing here is proved: the results were seen with one version of Python on one machine.
 """
 from __future__ import annotations
 
@@ -18,23 +18,26 @@ from .judge import Question, judged
 from .loosen import Form, forms
 
 MOST_TRIALS = 5
-# Times below this part of the limit can't be told apart, so they count as this part.
+# Times below this fraction of the limit are too short to be compared, so they count as this fraction.
 LEAST_PART = 0.002
-# The power of the length with which an exponential time grows at least where it is measured: 2**k does from k = 9 on.
+# An exponential time grows at least with this power of the length where it is measured: 2**k does from k = 9 on.
 LEAST_EXPONENTIAL = 6.0
 ALLOWED = 0.6
 
 
 @dataclass(frozen=True)
 class Hang:
-    """What was seen of a pattern: the class that its form has, with the family that was tried, and the match that hung."""
+    """What was seen of a pattern that hung: the entry of its loosened form, with the family that was tried, and the match."""
 
     entry: Entry
     seen: Seen
 
 
 def steady(times: Sequence[Tuple[int, float]]) -> List[Tuple[int, float]]:
-    """Returns the times, each at most that of any longer text: a text that took more than a longer one was disturbed."""
+    """Returns the times by rising length, each lowered to the least time of any longer text.
+
+    A text that took more time than a longer one was disturbed.
+    """
     found: List[Tuple[int, float]] = []
     least = math.inf
     for length, took in sorted(times, reverse=True):
@@ -44,9 +47,10 @@ def steady(times: Sequence[Tuple[int, float]]) -> List[Tuple[int, float]]:
 
 
 def power_of(outcome: Outcome, seconds: float) -> float:
-    """Returns the power of the length with which the times grew up to the match that passed the limit, or 0.
+    """Returns the power of the length with which the times grew up to the match that exceeded the limit, or 0 if none did.
 
-    They are measured from the first text whose time can be told, and from the last one before it, which took less than that.
+    The growth is measured from the first text whose time is long enough to be compared, and from the text before it; the
+    larger power is returned.
     """
     if outcome.length is None:
         return 0.0
@@ -60,9 +64,9 @@ def power_of(outcome: Outcome, seconds: float) -> float:
 
 
 def seen_class(entry: Entry, power: float, max_degree: int) -> Optional[Entry]:
-    """Returns the entry if the times grew at least as its class says, else with the degree that they grew with.
+    """Returns the entry if the times grew at least as its class says, otherwise the entry with the degree that was seen.
 
-    None means that this degree would be no finding.
+    Returns None if that degree isn't a finding.
     """
     if power >= (LEAST_EXPONENTIAL if entry.kind == "exponential" else (entry.degree or 0) - ALLOWED):
         return entry
@@ -71,7 +75,7 @@ def seen_class(entry: Entry, power: float, max_degree: int) -> Optional[Entry]:
 
 
 def chosen(all_forms: Sequence[Tuple[Form, Optional[Entry]]], max_degree: int) -> List[Tuple[Form, Entry]]:
-    """Returns the forms whose class would be a finding, the worst first, each family once."""
+    """Returns the forms whose class is a finding, each family once, the worst first, and at most MOST_TRIALS."""
     found: Dict[object, Tuple[Form, Entry]] = {}
     for form, entry in all_forms:
         if entry is not None and entry.family is not None and entry.is_finding(max_degree):
@@ -82,9 +86,10 @@ def chosen(all_forms: Sequence[Tuple[Form, Optional[Entry]]], max_degree: int) -
 def hangs(
     asked: Iterable[Tuple[Question, bool]], max_degree: int, options: Sequence[str], trials: Trials, jobs: int,
 ) -> Dict[Question, Hang]:
-    """Returns what was seen of the patterns of which something was; each comes with whether relint left it undecided.
+    """Returns the patterns that were seen to hang. Each pattern in `asked` comes with whether relint left it undecided.
 
-    Forms of all patterns are judged by relint first. No trial goes on after this. Raises JudgeError and ProgramError.
+    relint judges the forms of all patterns first, and then each pattern is tried. `trials` is stopped at the end. Raises
+    JudgeError and ProgramError.
     """
     made = {question: forms(question.pattern, question.flags, undecided) for question, undecided in asked}
     questions = {(question, form): replace(question, pattern=form.pattern) for question, its in made.items() for form in its}
@@ -103,6 +108,7 @@ def hangs(
 
 
 def _seen(question: Question, its: Sequence[Tuple[Form, Entry]], trials: Trials, max_degree: int) -> Optional[Hang]:
+    """The hang of a pattern that the first of these forms shows, or None if none of them does."""
     site, seconds = Site((), question.pattern, question.flags), trials.limits.seconds
     for form, entry in its:
         entry = replace(entry, call=question.mode)

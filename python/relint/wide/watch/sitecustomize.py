@@ -1,8 +1,9 @@
-"""Put first on the path of a program that relint-record runs: notes each pattern that `re` or `regex` is asked for.
+"""Notes each pattern that `re` or `regex` is asked to compile, in a program that relint-record runs.
 
-It changes nothing else: the module's own function does the work in a frame of its own, so that warnings name the same place,
-and it can be pickled by its name; a sitecustomize that was there before is run, and errors of the notes are silent. It imports
-almost nothing, since it is run at the start of each Python.
+Its folder comes first on Python's path, so it is run at the start of each Python; therefore it imports almost nothing. It
+changes nothing else in the program: the module's own code still does the work in a frame of its own, so warnings name the same
+place, and the function can still be pickled by its name. Another sitecustomize is run afterwards. Errors in taking notes are
+silent.
 """
 import _ast
 import os
@@ -13,7 +14,7 @@ if TYPE_CHECKING:
     from typing import Any, Set, Tuple
 
 WATCHED = ("re", "regex.regex", "regex._main")
-# Of each process at most so many patterns are noted, and none that is longer.
+# The largest number of patterns that a process notes, and the length of the longest.
 MOST = 200000
 LONGEST = 100000
 ONLY_TREE = 0x400
@@ -22,7 +23,7 @@ FOLDER = os.environ.get("RELINT_RECORD", "")
 
 
 class Notes:
-    """The notes of one process: a line for each new pattern at each place, written at once."""
+    """Takes the notes of one process: a line for each new pattern at each place, written at once."""
 
     def __init__(self) -> None:
         self.seen: "Set[Any]" = set()
@@ -30,7 +31,7 @@ class Notes:
         self.process = 0
 
     def note(self, engine: str, module: "Any", pattern: "Any", flags: "Any") -> None:
-        """Notes a pattern with the function that was called and the place that called it."""
+        """Notes a pattern, with the function that was called and the place of the call. Never raises."""
         try:
             frame = sys._getframe(3)
             method = frame.f_code
@@ -60,7 +61,7 @@ class Notes:
 
 
 class Loader:
-    """Loads a watched module with its own loader, and watches it then."""
+    """Loads a module with its own loader, and then begins to watch it."""
 
     def __init__(self, inner: "Any") -> None:
         self.inner = inner
@@ -69,21 +70,21 @@ class Loader:
         return getattr(self.inner, name)
 
     def create_module(self, spec: "Any") -> "Any":
-        """Makes the module as its loader does."""
+        """Creates the module by its own loader."""
         return self.inner.create_module(spec)
 
     def exec_module(self, module: "Any") -> None:
-        """Runs the module as its loader does."""
+        """Runs the module by its own loader, and begins to watch it."""
         module.__spec__.loader = module.__loader__ = self.inner
         self.inner.exec_module(module)
         watch(module)
 
 
 class Finder:
-    """Finds the watched modules as the other finders do."""
+    """Finds the modules to watch by the other finders, and gives them a loader that watches them."""
 
     def find_spec(self, name: str, path: "Any" = None, target: "Any" = None) -> "Any":
-        """Returns what the other finders say, with a loader that watches."""
+        """Returns what the other finders find, with a loader that watches; None if the module isn't to be watched."""
         if name not in WATCHED:
             return None
         finders: "Any" = sys.meta_path
@@ -101,7 +102,7 @@ NOTES = Notes()
 
 
 def watch(module: "Any") -> None:
-    """Has a module note each pattern that its functions are given."""
+    """Changes a module so that it notes each pattern that its functions are given."""
     inner: "Any" = getattr(module, "_compile", None)
     if inner is None or hasattr(module, NAME):
         return
@@ -120,7 +121,7 @@ def watch(module: "Any") -> None:
 
 
 def noting(module: "Any", inner: "Any") -> "Any":
-    """Makes a module's function anew from its source, with a call before its first statement that notes what it is given."""
+    """Compiles a module's function `_compile` again from its source, with a call in front that notes the pattern."""
     path, line = inner.__code__.co_filename, inner.__code__.co_firstlineno
     with open(path, "rb") as file:
         tree: "Any" = compile(file.read(), path, "exec", ONLY_TREE, True)
@@ -146,7 +147,7 @@ def calling(inner: "Any", note: "Any") -> "Any":
 
 
 def go_on() -> None:
-    """Runs the sitecustomize that would have been run without this one."""
+    """Runs the sitecustomize that Python would have run without this one, if there is one."""
     here = os.path.dirname(os.path.abspath(__file__))
     sys.path[:] = [it for it in sys.path if os.path.abspath(it) != here]
     from importlib.machinery import PathFinder
@@ -162,7 +163,7 @@ def go_on() -> None:
 
 
 def main() -> None:
-    """Watches what is there, and what will be imported."""
+    """Watches the modules that are imported already, and those that will be."""
     if FOLDER and os.path.isdir(FOLDER):
         sys.meta_path.insert(0, Finder())
         for name in WATCHED:
