@@ -1,13 +1,14 @@
 //! The command `relint-spans`: the real input and the real outputs, handed to the top call.
 //!
-//! `main` calls [`spans_main`] with the words after the program's name, a reader over the standard input, and a [`StdSink`] over each
-//! of the two outputs. It ends with the status that this returns. If the system doesn't give the words, for example because one isn't
-//! UTF-8, it writes nothing and ends with status 6, or with status 5 if memory for them was refused.
+//! `main` calls [`spans_main`] with the words after the program's name, a reader over the standard input, and a [`StdSink`]
+//! over each of the two outputs. It ends with the status that this returns. If the system doesn't give the words, for example
+//! because one isn't UTF-8, it writes nothing and ends with status 6, or with status 5 if memory for them was refused.
 //!
 //! # What is proved
 //!
-//! All that [`spans_main`] promises holds here too, as far as the traits promise it of a real input and real outputs. `main` itself has
-//! no contract: its handful of lines is all that you have to read to believe that the real outside is passed on as it is.
+//! All that [`spans_main`] promises holds here too, as far as the traits promise it of a real input and real outputs. `main`
+//! itself has no contract: its handful of lines is all that you have to read to believe that the real outside is passed on as
+//! it is.
 //!
 //! # Example
 //!
@@ -25,13 +26,13 @@ use std::io::BufReader;
 use std::process::ExitCode;
 use std::{env, io};
 
-/// The words after the program's name.
+/// Returns the words after the program's name.
 fn words(rt: &HostRuntime) -> io::Result<Vec<String>> {
     let words = env::args(rt)?.skip(1).collect(rt.alloc())?;
     Ok(words)
 }
 
-/// The status of the run.
+/// Runs the program on the real input and outputs, and returns its status.
 fn status(rt: &HostRuntime) -> io::Result<u8> {
     let words = words(rt)?;
     let mut input = BufReader::new(rt.alloc(), rt.stdin())?;
@@ -40,6 +41,7 @@ fn status(rt: &HostRuntime) -> io::Result<u8> {
     Ok(spans_main(rt.alloc(), &words, &mut input, &mut out, &mut err))
 }
 
+/// Ends the process with the status of the run: 5 or 6 if the words, or the buffer of the input, couldn't be had.
 fn main(rt: HostRuntime) -> ExitCode {
     match status(&rt) {
         Ok(status) => ExitCode::from(status),

@@ -9,7 +9,7 @@ use Rattle.rl_alike.specs.declared.question.Terms.{Terms}
 
 pub answer-plain : (terms : Terms) (found : Answer) → has_float (object (answer_members terms found)) ≡ false
 answer-plain terms (answer.Refused is_first cause) = refl
-answer-plain terms (answer.Passed limit) = refl
+answer-plain terms (answer.Undecided limit) = refl
 answer-plain terms answer.Same = refl
 answer-plain terms (answer.Differ d) = refl
 answer-plain terms answer.Exceeded = refl

@@ -11,7 +11,8 @@ use Rattle.rl_pattern.specs.declared.flags.Flags.{Flags}
 use Rattle.rl_report.specs.Names.{Text}
 use Rattle.rl_alike.specs.declared.terms.TheConstants.{MOST_LIMIT}
 
--- How patterns are asked, by its word. By `match` and by `search` the same is asked: what is found from each place.
+-- How patterns are asked, by the word of a mode, or `None` if it is no mode. By `match` and by `search` the same is asked:
+-- what is found from each place of a text.
 abbrev pub how_of : Text → Option How
 how_of word = if bytes_eq word (codes "fullmatch") then Some Fullmatch
     else (if bytes_eq word (codes "match") then Some Match
@@ -19,11 +20,12 @@ how_of word = if bytes_eq word (codes "fullmatch") then Some Fullmatch
     else (if bytes_eq word (codes "one-search") then Some OneSearch
     else None)))
 
--- Whether the text has the letter.
+-- Whether the text has the letter, which is given by its code.
 abbrev pub has_letter : ℕ → Text → Bool
 has_letter letter text = list_any (λ c. c == letter) text
 
--- The flags of these letters, of which each is that of a flag.
+-- The flags whose letters the text has; `None` if it has a character that is the letter of no flag. A letter may be there
+-- twice.
 abbrev pub flags_of : Text → Option Flags
 flags_of text =
     if list_all (is_in "aimsuxL") text
@@ -43,6 +45,6 @@ abbrev pub universe_of : Bool → Universe
 universe_of true = Bytes
 universe_of false = Str
 
--- Whether the number may be a limit on pairs.
+-- Whether the number may be a limit on pairs: from 1 to `MOST_LIMIT`.
 abbrev pub is_limit : ℕ → Bool
 is_limit number = nat_le 1 number && nat_le number MOST_LIMIT

@@ -1,4 +1,4 @@
--- Texts: how an answer is written.
+-- Texts: how the parts of an answer are written. Positions are counted in codes from 0, and numbers are written in decimal.
 use Rattle.std.specs.Prelude.{ℕ, ◌+◌, Bool, List, [], ◌∷◌, ◌++◌, Option, Some, None, codes, if◌then◌else◌}
 use Rattle.std.specs.Fmt.{decimal}
 use Rattle.rl_ranges.specs.declared.universe.Universe.{Universe}
@@ -9,57 +9,57 @@ use Rattle.rl_marks.specs.declared.limits.TheConstants.{MOST_GROUPS}
 use Rattle.rl_spans.specs.declared.finding.Sight.{Sight}
 use Rattle.rl_report.specs.Names.{Text}
 use Rattle.rl_alike.specs.declared.answer.Difference.{Difference}
-use Rattle.rl_alike.specs.declared.answer.Passed.{Passed}
-use Rattle.rl_alike.specs.declared.answer.Passed.TheVariants.{Size, Letters, Moves, Groups}
+use Rattle.rl_alike.specs.declared.answer.Limit.{Limit}
+use Rattle.rl_alike.specs.declared.answer.Limit.TheVariants.{Size, Letters, Moves, Groups}
 
--- A span: where it begins, and where it ends.
+-- A span, from its start and its end: `(0, 2)`.
 abbrev pub span_text : ℕ × ℕ → Text
 span_text s = codes "(" ++ (decimal s.0 ++ (codes ", " ++ (decimal s.1 ++ codes ")")))
 
--- The value of a group, which may have none.
+-- The value of a group: its span, or `none`.
 abbrev pub value_text : Option (ℕ × ℕ) → Text
 value_text None = codes "none"
 value_text (Some s) = span_text s
 
--- The number of a group, and its value.
+-- A group: a space, its number and its value, as in ` 1=(0, 2)` and ` 2=none`.
 abbrev pub group_text : ℕ → Option (ℕ × ℕ) → Text
 group_text n value = codes " " ++ (decimal n ++ (codes "=" ++ value_text value))
 
--- The values of groups, numbered from the given number on.
+-- The groups with these values, one behind the other, numbered from `n` on.
 abbrev pub groups_text : ℕ → List (Option (ℕ × ℕ)) → Text
 groups_text n [] = []
 groups_text n (value ∷ values) = group_text n value ++ groups_text (n + 1) values
 
--- The group that was closed last, if one was.
+-- The number of the group that was closed last, as in ` last=1`; nothing if no group was closed.
 abbrev pub last_text : Option ℕ → Text
 last_text None = []
 last_text (Some n) = codes " last=" ++ decimal n
 
--- A match: its span, and the values of its groups.
+-- A match: its span, its groups, and the group that was closed last, as in `(0, 2) 1=(0, 2) last=1`.
 abbrev pub match_text : Sight → Text
 match_text s = span_text (s.start, s.end) ++ (groups_text 1 s.groups ++ last_text s.last)
 
--- What a pattern finds.
+-- What a pattern finds: its match, or `none`.
 abbrev pub sight_text : Option Sight → Text
 sight_text None = codes "none"
 sight_text (Some s) = match_text s
 
--- A limit that is passed, as `relint` names it.
-abbrev pub passed_text : Passed → Text
-passed_text Size = codes "size over " ++ decimal MOST_NODES
-passed_text Letters = codes "letters over " ++ decimal MOST_LETTERS
-passed_text Moves = codes "moves over " ++ decimal MOST_MOVES
-passed_text Groups = codes "groups over " ++ decimal MOST_GROUPS
+-- A limit that is exceeded, with its number, as in `size over 4000`.
+abbrev pub limit_text : Limit → Text
+limit_text Size = codes "size over " ++ decimal MOST_NODES
+limit_text Letters = codes "letters over " ++ decimal MOST_LETTERS
+limit_text Moves = codes "moves over " ++ decimal MOST_MOVES
+limit_text Groups = codes "groups over " ++ decimal MOST_GROUPS
 
 -- A text of the universe as a literal of Python.
 abbrev pub quoted_text : Universe → List ℕ → Text
 quoted_text universe text = quoted (is_bytes universe) text
 
--- The place from which patterns are asked; the flag says that a match may not be empty there.
+-- The position from which patterns are asked, and ` not-empty` if only matches that aren't empty count.
 abbrev pub place_text : ℕ → Bool → Text
 place_text from advance = decimal from ++ (if advance then codes " not-empty" else [])
 
--- The lines on a text on which two patterns differ.
+-- The lines that say on which text two patterns differ, from which position, and what each finds there.
 abbrev pub difference_text : Universe → Difference → Text
 difference_text universe d =
     codes "differ\n  text " ++ (quoted_text universe d.text ++ (codes "\n  from " ++ (place_text d.from d.advance

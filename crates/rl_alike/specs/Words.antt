@@ -19,7 +19,7 @@ use Rattle.rl_alike.specs.declared.terms.TheConstants.{USUAL_LIMIT}
 
 -- ---- the command, in the terms of `clap`
 
--- The patterns, as many as there are.
+-- The words that aren't options, as many as there are: the patterns, or the word `-`.
 abbrev pub patterns_rule : Rule
 patterns_rule = record (new_rule (codes "patterns")) {
   range = Some (record { start_inclusive = 0; end_inclusive = usize_max });
@@ -29,34 +29,35 @@ patterns_rule = record (new_rule (codes "patterns")) {
 abbrev pub bytes_rule : Rule
 bytes_rule = record (new_rule (codes "bytes")) { long = Some (codes "bytes"); action = Some SetTrue }
 
--- An option `--name` of one value, which may stand once.
+-- An option `--name` of one value, which may be given once.
 abbrev pub option_rule : Text → Rule
 option_rule name = record (new_rule name) { long = Some name; action = Some Set }
 
--- No program's name stands before the words, and there is no `--help`.
+-- The command without arguments. Its words don't begin with a program's name, and there is no `--help`.
 abbrev pub bare_app : App
 bare_app = on_top (λ s. record s { disable_help_flag = true })
     (on_top (λ s. record s { no_binary_name = true }) (new_app (codes "relint-spans")))
 
--- The command with options of one value.
+-- The command with more options of one value, which have these names.
 abbrev pub with_options : App → List Text → App
 with_options app names = fold (λ app name. with_rule app (option_rule name)) app names
 
--- The command with its patterns and its four options.
+-- The command of `relint-spans`: its patterns, and its options `--bytes`, `--mode`, `--flags` and `--limit`.
 unfoldable pub spans_app : App
 spans_app = with_options (with_rule (with_rule bare_app patterns_rule) bytes_rule) (codes "mode" ∷ codes "flags" ∷ codes "limit" ∷ [])
 
--- What was found for each argument and option, where the command takes the words.
+-- What the words give for each argument and option, or `None` if the command doesn't take the words.
 unfoldable pub rows_given : List Text → Option (List Row)
 rows_given words = if is_empty (fault_of spans_app words) then Some (matches_of spans_app words) else None
 
 -- ---- values
 
--- One to six ASCII digits.
+-- Whether the text is one to six ASCII digits.
 abbrev pub is_numeral : Text → Bool
 is_numeral text = not (length text == 0) && (nat_le (length text) 6 && list_all is_ascii_digit text)
 
--- The limit that one to six ASCII digits write.
+-- The limit on pairs that the text writes; `None` if it isn't one to six ASCII digits, or their number isn't from 1 to
+-- `MOST_LIMIT`.
 abbrev pub limit_of : Text → Option ℕ
 limit_of text = if is_numeral text && is_limit (digits_value 10 text) then Some (digits_value 10 text) else None
 
@@ -65,7 +66,7 @@ abbrev pub or_usual : {V A : Type 0} → (V → Option A) → A → Option V →
 or_usual read usual None = Some usual
 or_usual read usual (Some value) = read value
 
--- What follows from a value, where there is one; a `do` block is a chain of these.
+-- What follows from a value, or `None` if there is none. A `do` block is a chain of these.
 infixl 10 ◌>>=◌
 abbrev pub ◌>>=◌ : {A B : Type 0} → Option A → (A → Option B) → Option B
 o >>= f = option_and_then f o
@@ -79,12 +80,12 @@ pub data Call : Type 0 where
   -- The questions of the input, one a line.
   lines : Call
 
--- `--bytes` is given.
+-- Whether `--bytes` is given, by the value that `clap` gives for it.
 abbrev pub is_bytes : Option Text → Bool
 is_bytes None = false
 is_bytes (Some word) = bytes_eq word (codes "true")
 
--- How the patterns are compared, by the options.
+-- How the patterns are compared, by the options; `None` if the value of one is refused.
 abbrev pub terms_given : List Row → Option Terms
 terms_given rows = do
   Some (record {
@@ -94,23 +95,24 @@ terms_given rows = do
     limit = (← or_usual limit_of USUAL_LIMIT (first_of (codes "limit") rows));
   })
 
--- Two patterns, or the word `-`, by which the options have no effect.
+-- The call by the words that aren't options: two patterns, or the word `-` alone, with which the options have no effect;
+-- `None` for any other words.
 abbrev pub call_of : Terms → List Text → Option Call
 call_of terms (first ∷ second ∷ []) = Some (pair (record { first = first; second = second; terms = terms }))
 call_of terms (word ∷ []) = if bytes_eq word (codes "-") then Some lines else None
 call_of terms _ = None
 
--- The call that the arguments and options make.
+-- The call that the arguments and options make, or `None` if they make none.
 abbrev pub call_given : List Row → Option Call
 call_given rows = do
   terms ← terms_given rows
   call_of terms (unwrap_or (all_of (codes "patterns") rows) [])
 
--- What the words ask for, where they are a valid call.
+-- What the words ask for, or `None` if they aren't a valid call.
 unfoldable pub given_by : List Text → Option Call
 given_by words = rows_given words >>= call_given
 
--- What is told if the words aren't a valid call.
+-- What is written on `err` if the words aren't a valid call.
 unfoldable pub usage_text : Text
 usage_text =
     codes "usage: relint-spans [--mode MODE] [--flags FLAGS] [--bytes] [--limit N] PATTERN PATTERN\n"

@@ -1,13 +1,15 @@
-//! Questions answered.
+//! How a question is answered: its words are read as patterns, these get their groups, and then both are compared.
 
-ghost use Rattle.std.specs.Prelude.{IfOk, IfSome};
+ghost use Rattle.std.specs.Prelude.{◌≡◌, ◌<◌, ◌^◌, IfErr, IfOk, length};
 ghost use Rattle.rl_spans.specs.Answers.{DifferOn};
-ghost use Rattle.rl_alike.specs.Answers.{IsDecided, IsFound, IsOfSearch, IsRight, Shows};
+ghost use Rattle.rl_spans.specs.Limits.{IsCause};
+ghost use Rattle.rl_alike.specs.Answers.{IsDecided, IsFound, IsRight, Shows};
 ghost use Rattle.rl_alike.specs.Patterns.{IsReadAs};
 ghost use Rattle.rl_alike.specs.Questions.{asked};
+ghost use Rattle.rl_alike.specs.internal.Limits.{limit_named};
 ghost use Rattle.rl_alike.specs.internal.Reads.{IsFoundWith};
 
-use crate::answer::{Answer, Difference, Passed};
+use crate::answer::{Answer, Difference, Limit};
 use crate::patterns::{MarkedRead, PatternRead, mark_pattern, read_pattern};
 use crate::question::{Question, Terms};
 use rl_lists::{Codes, OutOfMemory};
@@ -16,10 +18,11 @@ use rl_spans::{SameFinds, SpansError, found_by, same_finds};
 use rl_syntax::Pattern;
 use std::alloc::Global;
 
-/// A text on which two patterns differ, with what each of them finds there.
+/// Runs both patterns on a text on which they differ. Returns the text with what each of them finds there.
 ///
 /// # Errors
-/// [`SpansError`] for a limit that is passed.
+/// [`SpansError::Moves`] only if a comparison of the patterns exceeds this limit, [`SpansError::OutOfMemory`] if there was no
+/// memory.
 fn difference(
     alloc: Global,
     how: How,
@@ -29,8 +32,10 @@ fn difference(
     from: u32,
     advance: bool,
 ) -> Result<Difference, SpansError>
-    requires { DifferOn how a.now b.now text from advance }
-    ensures { IfOk result (Shows how a.now b.now) }
+    requires differ { DifferOn how a.now b.now text from advance }
+    requires short { length text < 2 ^ 32 }
+    ensures shows { IfOk result (Shows how a.now b.now) }
+    ensures causes { IfErr result (IsCause how a.now b.now) }
 {
     let place = from as usize;
     let first = found_by(alloc, a, how, text.as_slice(), advance, place)?;
@@ -44,29 +49,31 @@ fn difference(
     })
 }
 
-/// The limit that an error names. Out of memory names none. A text of 2^32 codes or more counts as a size; the search tells none.
-fn limit_of(error: SpansError) -> Option<Passed>
-    ensures { IfSome result IsOfSearch }
+/// Returns the limit that the error names. Out of memory names none, and [`SpansError::Text`] never comes of a comparison.
+fn limit_of(error: SpansError) -> Option<Limit>
+    ensures { result ≡ limit_named error }
 {
     match error {
-        SpansError::Size | SpansError::Text => Some(Passed::Size),
-        SpansError::Letters => Some(Passed::Letters),
-        SpansError::Moves => Some(Passed::Moves),
-        SpansError::OutOfMemory => None,
+        SpansError::Size => Some(Limit::Size),
+        SpansError::Letters => Some(Limit::Letters),
+        SpansError::Moves => Some(Limit::Moves),
+        SpansError::Text | SpansError::OutOfMemory => None,
     }
 }
 
-/// What the search finds of two patterns with their groups.
+/// Searches for a difference between two patterns with their groups. Returns what is found.
 ///
 /// # Errors
-/// [`SpansError`] for a limit that is passed.
+/// [`SpansError::Size`], [`SpansError::Letters`] or [`SpansError::Moves`] only for a limit that the comparison exceeds,
+/// [`SpansError::OutOfMemory`] if there was no memory.
 fn searched(
     alloc: Global,
     terms: Terms,
     a: &MarkedPattern,
     b: &MarkedPattern,
 ) -> Result<Answer, SpansError>
-    ensures { IfOk result (IsDecided terms.how a.now b.now) }
+    ensures decided { IfOk result (IsDecided terms.how a.now b.now) }
+    ensures causes { IfErr result (IsCause terms.how a.now b.now) }
 {
     match same_finds(alloc, a, b, terms.how, terms.limit)? {
         SameFinds::Same(_) => Ok(Answer::Same),
@@ -82,7 +89,7 @@ fn searched(
     }
 }
 
-/// What is answered of two patterns with their groups.
+/// Returns the answer for two patterns with their groups.
 fn decided(
     alloc: Global,
     terms: Terms,
@@ -94,13 +101,13 @@ fn decided(
     match searched(alloc, terms, a, b) {
         Ok(answer) => Ok(answer),
         Err(error) => match limit_of(error) {
-            Some(limit) => Ok(Answer::Passed(limit)),
+            Some(limit) => Ok(Answer::Undecided(limit)),
             None => Err(OutOfMemory),
         },
     }
 }
 
-/// What is answered of a pattern and one with its groups.
+/// Returns the answer for a first pattern, with its groups, and a second one, which gets its groups here.
 fn second_found(
     alloc: Global,
     terms: Terms,
@@ -110,7 +117,7 @@ fn second_found(
     ensures { IfOk result (IsFoundWith terms.how first.now second.now) }
 {
     match mark_pattern(alloc, second)? {
-        MarkedRead::Passed(limit) => Ok(Answer::Passed(limit)),
+        MarkedRead::Exceeds(limit) => Ok(Answer::Undecided(limit)),
         MarkedRead::Marked(second) => {
             let answer = decided(alloc, terms, first, &second);
             drop(second);
@@ -119,7 +126,7 @@ fn second_found(
     }
 }
 
-/// What is answered of two patterns.
+/// Returns the answer for two patterns.
 fn both_found(
     alloc: Global,
     terms: Terms,
@@ -129,7 +136,7 @@ fn both_found(
     ensures { IfOk result (IsFound terms.how first.now second.now) }
 {
     match mark_pattern(alloc, first)? {
-        MarkedRead::Passed(limit) => Ok(Answer::Passed(limit)),
+        MarkedRead::Exceeds(limit) => Ok(Answer::Undecided(limit)),
         MarkedRead::Marked(first) => {
             let answer = second_found(alloc, terms, &first, second);
             drop(first);
@@ -138,7 +145,7 @@ fn both_found(
     }
 }
 
-/// What is answered of a question whose first pattern is read.
+/// Returns the answer to a question whose first word was read as the pattern `first`.
 fn second_answer(alloc: Global, question: Question, first: &Pattern) -> Result<Answer, OutOfMemory>
     requires { IsReadAs question.terms question.first.now first.now }
     ensures { IfOk result (IsRight (asked question.entry)) }
@@ -156,10 +163,10 @@ fn second_answer(alloc: Global, question: Question, first: &Pattern) -> Result<A
     }
 }
 
-/// What is answered of a question.
+/// Returns the answer to a question. If both words are refused, it names the first.
 ///
 /// # Errors
-/// [`OutOfMemory`].
+/// [`OutOfMemory`] if there was no memory for the answer.
 pub fn answer_to(alloc: Global, question: Question) -> Result<Answer, OutOfMemory>
     ensures { IfOk result (IsRight (asked question.entry)) }
 {

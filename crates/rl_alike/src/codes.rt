@@ -8,7 +8,7 @@ use rl_lists::{Codes, OutOfMemory};
 use rl_syntax::Universe;
 use std::alloc::Global;
 
-/// The codes of a word, one for each character.
+/// Returns the codes of a word, one for each character.
 ///
 /// # Errors
 /// [`OutOfMemory`] if there was no memory for the list.
@@ -19,14 +19,14 @@ pub(crate) fn codes_of(alloc: Global, word: &str) -> Result<Codes, OutOfMemory>
     Ok(Codes::from_vec(codes))
 }
 
-/// Whether each code is below the count.
+/// Returns whether each code is below the count.
 fn are_below(codes: &[u32], count: u32) -> bool
     ensures { IsTrue result ↔ All (λ c. c < count) codes.now }
 {
     codes.iter().all(|code| *code < count)
 }
 
-/// Whether each code is one of the universe.
+/// Returns whether each code is one of the universe.
 pub(crate) fn is_text(universe: Universe, codes: &[u32]) -> bool
     ensures yes { IsTrue result → IsText universe codes.now }
     ensures no { IsText universe codes.now → IsTrue result }

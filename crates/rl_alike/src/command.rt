@@ -1,4 +1,4 @@
-//! The command that the words are read by, in `clap`'s terms.
+//! The command by which `clap` reads the words.
 
 ghost use Rattle.std.specs.Prelude.{◌≡◌, ◌≤◌, Some, None, false, length, map, IfOk, IsErrOf, option_map};
 ghost use Rattle.std.specs.String.{string_bytes};
@@ -13,9 +13,10 @@ use clap::error::ErrorKind;
 use clap::{Arg, ArgAction, ArgMatches, Command};
 use std::alloc::{AllocError, Global};
 
+/// The names of the options that have a value.
 const OPTIONS: [&str; 3] = ["mode", "flags", "limit"];
 
-// The patterns.
+/// Returns the argument of the words that aren't options.
 fn patterns_argument<'a>(alloc: Global) -> Arg<'a>
     ensures rule { rule_of result ≡ patterns_rule }
     ensures local { result.global ≡ false }
@@ -23,7 +24,7 @@ fn patterns_argument<'a>(alloc: Global) -> Arg<'a>
     Arg::new(alloc, "patterns").num_args(0..)
 }
 
-// The option without a value.
+/// Returns the option `--bytes`, which has no value.
 fn bytes_argument<'a>(alloc: Global) -> Arg<'a>
     ensures rule { rule_of result ≡ bytes_rule }
     ensures local { result.global ≡ false }
@@ -33,7 +34,7 @@ fn bytes_argument<'a>(alloc: Global) -> Arg<'a>
         .action(ArgAction::SetTrue)
 }
 
-// An option of one value.
+/// Returns an option `--name` of one value, which may be given once.
 fn option_argument<'a>(alloc: Global, name: &'a str) -> Arg<'a>
     ensures rule { rule_of result ≡ option_rule name.entry.now }
     ensures local { result.global ≡ false }
@@ -41,7 +42,7 @@ fn option_argument<'a>(alloc: Global, name: &'a str) -> Arg<'a>
     Arg::new(alloc, name).long(name).action(ArgAction::Set)
 }
 
-// The command before its arguments.
+/// Returns the command without arguments.
 fn bare_command<'a>(alloc: Global) -> Command<'a>
     ensures { app_of result ≡ bare_app }
 {
@@ -50,7 +51,7 @@ fn bare_command<'a>(alloc: Global) -> Command<'a>
         .disable_help_flag(true)
 }
 
-// The arguments of the command, and options of these names.
+/// Returns the arguments of the command: the patterns, `--bytes`, and an option of one value for each of these names.
 fn arguments_and_options<'a>(
     alloc: Global,
     names: &[&'static str],
@@ -68,7 +69,7 @@ fn arguments_and_options<'a>(
     Ok(arguments)
 }
 
-// The command with its arguments and its options.
+/// Returns the command with its arguments and its options.
 fn spans_command<'a>(alloc: Global) -> Result<Command<'a>, AllocError>
     ensures { IfOk result (λ c. app_of c ≡ spans_app) }
 {
@@ -77,10 +78,10 @@ fn spans_command<'a>(alloc: Global) -> Result<Command<'a>, AllocError>
     bare_command(alloc).args(arguments)
 }
 
-/// What the words give under the command.
+/// Returns what the words give for each argument and option of the command.
 ///
 /// # Errors
-/// [`WordsError::Invalid`] where the command doesn't take the words; [`WordsError::OutOfMemory`].
+/// [`WordsError::Invalid`] only if the command doesn't take the words, [`WordsError::OutOfMemory`] if there was no memory.
 pub(crate) fn matches_given<'a>(
     alloc: Global,
     words: &'a [String],
@@ -99,7 +100,7 @@ pub(crate) fn matches_given<'a>(
     }
 }
 
-// Every refusal by the command except that of memory says that the words aren't a valid call.
+/// Returns the error for a refusal by `clap`: each one except out of memory says that the words aren't a valid call.
 fn error_of(kind: ErrorKind) -> WordsError
     ensures memory { kind ≡ ErrorKind.OutOfMemory → result ≡ WordsError.OutOfMemory }
 {
@@ -109,14 +110,14 @@ fn error_of(kind: ErrorKind) -> WordsError
     }
 }
 
-/// The first value of an argument or an option.
+/// Returns the first value of an argument or an option, or `None` if it has none.
 pub(crate) fn value_of<'a>(matches: &ArgMatches<'a>, name: &str) -> Option<&'a str>
     ensures { option_map (λ s. s.now) result ≡ first_of name.now (rows_of (found_of matches.now)) }
 {
     matches.get_str(name)
 }
 
-/// All values of an argument or an option, in order, where there are any.
+/// Returns all values of an argument or an option, in order, or `None` if it has none.
 pub(crate) fn values_of<'m, 'a>(matches: &'m ArgMatches<'a>, name: &str) -> Option<&'m [&'a str]>
     ensures { option_map (λ s. texts s.now) result
         ≡ all_of name.now (rows_of (found_of matches.entry.now)) }

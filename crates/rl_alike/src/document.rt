@@ -1,4 +1,4 @@
-//! Answers as lines of JSON.
+//! Answers as lines of JSON. The functions named `put_..` add members to an object.
 
 ghost use Rattle.std.specs.Prelude.{◌≡◌, IfOk, OnOk, codes, not};
 ghost use Rattle.serde_json.specs.Data.{boolean, no_members, put, string};
@@ -10,16 +10,17 @@ ghost use Rattle.rl_alike.specs.Document.{answer_members, difference_members, na
 
 use crate::answer::{Answer, Difference};
 use crate::question::Terms;
-use crate::texts::{literal, passed_text, sight_text};
+use crate::texts::{limit_text, literal, sight_text};
 use rl_json::line_of;
 use rl_lists::{Bytes, OutOfMemory};
 use rl_syntax::Universe;
 use serde_json::{Map, Value, put};
 use std::alloc::Global;
 
-/// The members of an object.
+/// The members of an object of JSON.
 type Members = Map<String, Value>;
 
+/// Sets the value at the key.
 fn put_value(
     alloc: Global,
     members: &mut Members,
@@ -33,6 +34,7 @@ fn put_value(
     Ok(())
 }
 
+/// Sets the value at the key to a string.
 fn put_text(alloc: Global, members: &mut Members, key: &str, text: &str) -> Result<(), OutOfMemory>
     ensures { OnOk result (members_view members.new.entries
         ≡ put key.now (string text.now) (members_view members.old.entries)) }
@@ -41,6 +43,7 @@ fn put_text(alloc: Global, members: &mut Members, key: &str, text: &str) -> Resu
     put_value(alloc, members, key, value)
 }
 
+/// Sets the value at the key to a number.
 fn put_number(
     alloc: Global,
     members: &mut Members,
@@ -53,7 +56,7 @@ fn put_number(
     put_value(alloc, members, key, Value::from(number))
 }
 
-/// The members of a text on which two patterns differ.
+/// Adds the members of an answer that gives a text on which two patterns differ.
 fn put_difference(
     alloc: Global,
     members: &mut Members,
@@ -75,14 +78,14 @@ fn put_difference(
     put_text(alloc, members, "text", text.as_str())
 }
 
-/// The name of a pattern.
+/// Returns the name of a pattern: `first` or `second`.
 fn pattern_name(is_first: bool) -> &'static str
     ensures { result.now ≡ pattern_name is_first }
 {
     if is_first { "first" } else { "second" }
 }
 
-/// The members of an answer.
+/// Adds the members of an answer to an object that has none.
 fn put_answer(
     alloc: Global,
     members: &mut Members,
@@ -99,8 +102,8 @@ fn put_answer(
             put_text(alloc, members, "cause", cause.as_str())?;
             put_text(alloc, members, "pattern", pattern_name(*is_first))
         }
-        Answer::Passed(passed) => {
-            let cause = passed_text(alloc, *passed)?;
+        Answer::Undecided(limit) => {
+            let cause = limit_text(alloc, *limit)?;
             put_text(alloc, members, "answer", "undecided")?;
             put_text(alloc, members, "cause", cause.as_str())
         }
@@ -113,7 +116,7 @@ fn put_answer(
     }
 }
 
-/// The object of an answer.
+/// Returns the object of an answer.
 fn object_of(alloc: Global, terms: Terms, answer: &Answer) -> Result<Value, OutOfMemory>
     requires { IsTellable terms.universe answer.now }
     ensures { IfOk result (λ v. view v ≡ object (answer_members terms answer.now)) }
@@ -128,10 +131,10 @@ fn object_of(alloc: Global, terms: Terms, answer: &Answer) -> Result<Value, OutO
     }
 }
 
-/// An answer as a line.
+/// Returns an answer as a line of JSON, with its line feed.
 ///
 /// # Errors
-/// [`OutOfMemory`].
+/// [`OutOfMemory`] if there was no memory for it.
 pub(crate) fn reply_line(alloc: Global, terms: Terms, answer: &Answer) -> Result<Bytes, OutOfMemory>
     requires { IsTellable terms.universe answer.now }
     ensures { IfOk result (λ line. line ≡ reply_text terms answer.now) }

@@ -1,4 +1,4 @@
-//! Numbers in words.
+//! Numbers in the words of the command line.
 
 ghost use Rattle.std.specs.Prelude.{◌≡◌};
 ghost use Rattle.std.specs.Char.{is_ascii_digit};
@@ -7,21 +7,22 @@ ghost use Rattle.rl_alike.specs.Words.{is_numeral, limit_of};
 
 use crate::terms::is_limit;
 
-// Whether each byte is an ASCII digit.
+/// Returns whether each byte is an ASCII digit.
 fn has_digits_only(text: &str) -> bool
     ensures { result ≡ list_all is_ascii_digit text.now }
 {
     text.bytes().all(|byte| byte.is_ascii_digit())
 }
 
-// One to six digits.
+/// Returns whether the text is one to six ASCII digits.
 fn is_numeral(text: &str) -> bool
     ensures { result ≡ is_numeral text.now }
 {
     !text.is_empty() && text.len() <= 6 && has_digits_only(text)
 }
 
-/// The limit that one to six ASCII digits write.
+/// Returns the limit on pairs that the text writes, or `None` if it isn't one to six ASCII digits, or their number is no
+/// limit.
 pub(crate) fn limit_of(text: &str) -> Option<u32>
     ensures { result ≡ limit_of text.now }
 {

@@ -1,4 +1,4 @@
-//! Questions from JSON.
+//! Questions from values of JSON. Each function that reads a key returns `None` if the value at the key is refused.
 
 ghost use Rattle.std.specs.Prelude.{◌≡◌, ◌==◌, codes, false, is_some, if◌then◌else◌, option_and_then, option_map};
 ghost use Rattle.serde_json.specs.Find.{as_bool, as_str, get};
@@ -16,14 +16,14 @@ use rl_marks::How;
 use rl_pattern::Flags;
 use serde_json::Value;
 
-/// The text at a key.
+/// Returns the string at the key, or `None` if there is none.
 fn text_at<'v>(value: &'v Value, key: &str) -> Option<&'v str>
     ensures { option_map (λ t. t.now) result ≡ option_and_then as_str (get key.now (view value.entry.now)) }
 {
     value.get(key).and_then(Value::as_str)
 }
 
-/// How patterns are asked.
+/// Returns how patterns are asked, by the key `mode`; without it as by `match`.
 fn how_at(value: &Value) -> Option<How>
     ensures { result ≡ or_usual how_read Match (get (codes "mode") (view value.now)) }
 {
@@ -33,7 +33,7 @@ fn how_at(value: &Value) -> Option<How>
     }
 }
 
-/// The flags of the call.
+/// Returns the flags of the call, by the key `flags`; without it there are none.
 fn flags_at(value: &Value) -> Option<Flags>
     ensures { result ≡ or_usual flags_read no_flags (get (codes "flags") (view value.now)) }
 {
@@ -43,7 +43,7 @@ fn flags_at(value: &Value) -> Option<Flags>
     }
 }
 
-/// Whether the patterns are bytes patterns.
+/// Returns whether the patterns are bytes patterns, by the key `bytes`; without it they aren't.
 fn bytes_at(value: &Value) -> Option<bool>
     ensures { result ≡ or_usual as_bool false (get (codes "bytes") (view value.now)) }
 {
@@ -53,7 +53,7 @@ fn bytes_at(value: &Value) -> Option<bool>
     }
 }
 
-/// A limit on pairs.
+/// Returns the limit on pairs that a value is, or `None` if it isn't a whole number in the range of limits.
 fn limit_of(value: &Value) -> Option<u32>
     ensures { result ≡ limit_read (view value.now) }
 {
@@ -65,7 +65,7 @@ fn limit_of(value: &Value) -> Option<u32>
     }
 }
 
-/// The limit on pairs.
+/// Returns the limit on pairs, by the key `limit`; without it the usual one.
 fn limit_at(value: &Value) -> Option<u32>
     ensures { result ≡ or_usual limit_read USUAL_LIMIT (get (codes "limit") (view value.now)) }
 {
@@ -75,7 +75,7 @@ fn limit_at(value: &Value) -> Option<u32>
     }
 }
 
-/// How the patterns are compared.
+/// Returns how the patterns are compared.
 fn terms_of(value: &Value) -> Option<Terms>
     ensures { result ≡ terms_read (view value.now) }
 {
@@ -91,7 +91,7 @@ fn terms_of(value: &Value) -> Option<Terms>
     })
 }
 
-/// How many members an object has; another value has none.
+/// Returns how many members an object has; another value has none.
 fn member_count(value: &Value) -> usize
     ensures { result ≡ member_count (view value.now) }
 {
@@ -101,14 +101,14 @@ fn member_count(value: &Value) -> usize
     }
 }
 
-/// 1 if there is something at the key.
+/// Returns 1 if the value is an object with the key, and 0 otherwise.
 fn present(value: &Value, key: &str) -> usize
     ensures { result ≡ present key.now (view value.now) }
 {
     if value.get(key).is_some() { 1 } else { 0 }
 }
 
-/// Whether each member is one of a question.
+/// Returns whether the value has no members other than those of a question.
 fn has_known_only(value: &Value) -> bool
     ensures { result ≡ has_known_only (view value.now) }
 {
@@ -121,7 +121,7 @@ fn has_known_only(value: &Value) -> bool
     member_count(value) == known
 }
 
-/// The question that a value is.
+/// Returns the question that a value is, or `None` if it is no question.
 pub(crate) fn question_of<'v>(value: &'v Value) -> Option<Question<'v>>
     ensures { option_map asked result ≡ question_read (view value.entry.now) }
 {

@@ -1,11 +1,11 @@
-//! Patterns read.
+//! How words are read as patterns, and how these get their groups.
 
 ghost use Rattle.std.specs.Prelude.{◌≡◌, IfOk, Some};
 ghost use Rattle.std.specs.String.{string_bytes};
 ghost use Rattle.rl_alike.specs.Patterns.{cause_text};
 ghost use Rattle.rl_alike.specs.internal.Reads.{IsMarkedRead, IsPatternRead};
 
-use crate::answer::Passed;
+use crate::answer::Limit;
 use crate::codes::{codes_of, is_text};
 use crate::question::Terms;
 use rl_lists::OutOfMemory;
@@ -15,28 +15,28 @@ use rl_report::feature_name;
 use rl_syntax::Pattern;
 use std::alloc::Global;
 
-/// A pattern that is read, or why it isn't.
+/// What comes of a word that is read as a pattern.
 #[derive(Drop)]
 pub(crate) enum PatternRead {
-    /// It is refused for this cause.
+    /// The word is refused for this cause.
     Refused(String),
-    /// It is this one.
+    /// The pattern.
     Read(Pattern),
 }
 
-/// A pattern with its groups, or the limit that it passes.
+/// What comes of a pattern that gets its groups.
 #[derive(Drop)]
 pub(crate) enum MarkedRead {
-    /// It passes this limit.
-    Passed(Passed),
-    /// It is this one.
+    /// The pattern exceeds this limit.
+    Exceeds(Limit),
+    /// The pattern with its groups.
     Marked(MarkedPattern),
 }
 
-/// Why a pattern is refused.
+/// Returns why a pattern is refused, as a text.
 ///
 /// # Errors
-/// [`OutOfMemory`], now or when the pattern was parsed.
+/// [`OutOfMemory`] if there was no memory for the text, or if that is the error.
 fn cause_of(alloc: Global, error: PatError) -> Result<String, OutOfMemory>
     ensures { IfOk result (λ cause. cause_text error ≡ Some (string_bytes cause)) }
 {
@@ -52,10 +52,10 @@ fn cause_of(alloc: Global, error: PatError) -> Result<String, OutOfMemory>
     }
 }
 
-/// The pattern of a word.
+/// Reads a word as a pattern.
 ///
 /// # Errors
-/// [`OutOfMemory`].
+/// [`OutOfMemory`] if there was no memory for the pattern or for the cause.
 pub(crate) fn read_pattern(
     alloc: Global,
     word: &str,
@@ -77,17 +77,17 @@ pub(crate) fn read_pattern(
     }
 }
 
-/// The pattern with its groups.
+/// Returns the pattern with its groups, or the limit that it exceeds.
 ///
 /// # Errors
-/// [`OutOfMemory`].
+/// [`OutOfMemory`] if there was no memory for it.
 pub(crate) fn mark_pattern(alloc: Global, pattern: &Pattern) -> Result<MarkedRead, OutOfMemory>
     ensures { IfOk result (IsMarkedRead pattern.now) }
 {
     match MarkedPattern::of(alloc, pattern) {
         Ok(marked) => Ok(MarkedRead::Marked(marked)),
-        Err(MarkError::TooLarge) => Ok(MarkedRead::Passed(Passed::Size)),
-        Err(MarkError::TooManyGroups) => Ok(MarkedRead::Passed(Passed::Groups)),
+        Err(MarkError::TooLarge) => Ok(MarkedRead::Exceeds(Limit::Size)),
+        Err(MarkError::TooManyGroups) => Ok(MarkedRead::Exceeds(Limit::Groups)),
         Err(MarkError::OutOfMemory) => Err(OutOfMemory),
     }
 }

@@ -9,20 +9,20 @@ ghost use Rattle.rl_alike.specs.internal.Plans.{IsPlanFor, ending_of};
 use crate::answer::Answer;
 use crate::answering::answer_to;
 use crate::question::{Question, Terms};
-use crate::texts::{difference_text, passed_text};
+use crate::texts::{difference_text, limit_text};
 use rl_lists::OutOfMemory;
 use std::alloc::Global;
 
 /// What a run with one question is to do.
 #[derive(Drop)]
 pub(crate) enum Plan {
-    /// To refuse what it was asked for, with this message.
+    /// To refuse what it was asked for, with this message on the error output.
     Refuses(String),
-    /// To write this text, and to say by its status whether that is a difference.
+    /// To write this text to the output. `differs` says that it gives a difference, so that the status is 1, and not 0.
     Writes { text: String, differs: bool },
 }
 
-/// What is to be written of an answer.
+/// Returns what a run is to do if this is the answer.
 fn answer_plan(alloc: Global, terms: Terms, answer: &Answer) -> Result<Plan, OutOfMemory>
     requires { IsTellable terms.universe answer.now }
     ensures { IfOk result (λ plan. ending_of plan ≡ answer_ending terms answer.now) }
@@ -32,8 +32,8 @@ fn answer_plan(alloc: Global, terms: Terms, answer: &Answer) -> Result<Plan, Out
             let text = format!(in alloc; "relint: refused {cause}\n")?;
             Ok(Plan::Refuses(text))
         }
-        Answer::Passed(passed) => {
-            let cause = passed_text(alloc, *passed)?;
+        Answer::Undecided(limit) => {
+            let cause = limit_text(alloc, *limit)?;
             let text = format!(in alloc; "undecided {cause}\n")?;
             Ok(Plan::Writes {
                 text,
@@ -65,10 +65,10 @@ fn answer_plan(alloc: Global, terms: Terms, answer: &Answer) -> Result<Plan, Out
     }
 }
 
-/// What a run with this question is to do.
+/// Answers the question, and returns what the run is to do.
 ///
 /// # Errors
-/// [`OutOfMemory`].
+/// [`OutOfMemory`] if there was no memory for the answer or its text.
 pub(crate) fn question_plan(alloc: Global, question: Question) -> Result<Plan, OutOfMemory>
     ensures { IfOk result (λ plan. IsPlanFor (asked question.entry) (ending_of plan)) }
 {

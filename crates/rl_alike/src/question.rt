@@ -7,13 +7,13 @@ use rl_syntax::Universe;
 /// How two patterns are compared.
 #[derive(Clone, Copy)]
 pub struct Terms {
-    /// How they are asked for what they find.
+    /// For what they are asked: by `fullmatch` or `match` from each place, or by one search.
     pub how: How,
-    /// The flags of the call, for both.
+    /// The flags of the call, for both patterns.
     pub flags: Flags,
-    /// The universe of their codes.
+    /// The universe of their codes: that of bytes patterns or of text patterns.
     pub universe: Universe,
-    /// The most pairs of the search.
+    /// How many pairs of thread lists the search may reach.
     pub limit: u32,
 }
 

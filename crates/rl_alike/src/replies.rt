@@ -1,4 +1,4 @@
-//! Many questions, one a line of an input, each with its reply.
+//! Many questions, one on each line of an input, each with its reply.
 
 ghost use Rattle.std.specs.Prelude.{◌≡◌, codes, Some, None, Err, IfOk, IsUtf8};
 ghost use Rattle.serde_json.specs.Read.{read};
@@ -23,14 +23,14 @@ use std::io::{BufRead, ErrorKind};
 /// What is replied to a line.
 #[derive(Drop)]
 enum Reply {
-    /// A text that is always the same.
+    /// A text that doesn't depend on the line.
     Fixed(&'static str),
     /// A line that was made for this answer.
     Made(Bytes),
 }
 
 impl Reply {
-    /// The bytes of the reply.
+    /// Returns the bytes of the reply.
     fn as_bytes(&self) -> &[u8]
         ensures { result.now ≡ reply_bytes self.now }
     {
@@ -41,41 +41,41 @@ impl Reply {
     }
 }
 
-/// How the replies ended.
+/// Where the replies to an input ended.
 #[derive(Clone, Copy)]
 pub(crate) enum RepliesEnd {
     /// At the end of the input.
     AtEnd,
     /// The input couldn't be read.
     Unreadable,
-    /// A reply couldn't be written.
+    /// A reply couldn't be written, or only in part.
     WriteFault,
-    /// Out of memory for a line.
+    /// Out of memory for a line that was to be read.
     OutOfMemory,
 }
 
-/// That a line isn't JSON.
+/// Returns the reply that a line isn't JSON.
 fn no_json() -> Reply
     ensures { reply_bytes result ≡ error_text (codes "no JSON") }
 {
     Reply::Fixed("{\"answer\":\"error\",\"message\":\"no JSON\"}\n")
 }
 
-/// That a line is no question.
+/// Returns the reply that a line is no question.
 fn no_question() -> Reply
     ensures { reply_bytes result ≡ error_text (codes "no question") }
 {
     Reply::Fixed("{\"answer\":\"error\",\"message\":\"no question\"}\n")
 }
 
-/// That there was no memory for an answer.
+/// Returns the reply that there was no memory for an answer.
 fn no_memory() -> Reply
     ensures { reply_bytes result ≡ error_text (codes "out of memory") }
 {
     Reply::Fixed("{\"answer\":\"error\",\"message\":\"out of memory\"}\n")
 }
 
-/// The line of a question's answer.
+/// Returns the line of the answer to a question, with its line feed.
 fn answer_line(alloc: Global, question: Question) -> Result<Bytes, OutOfMemory>
     ensures { IfOk result (AnswersWell (asked question.entry)) }
 {
@@ -85,7 +85,7 @@ fn answer_line(alloc: Global, question: Question) -> Result<Bytes, OutOfMemory>
     line
 }
 
-/// What is replied to a value.
+/// Returns the reply to a line that is this value of JSON.
 fn value_reply(alloc: Global, value: &Value) -> Result<Reply, OutOfMemory>
     ensures { IfOk result (λ reply. IsReplyTo (view value.now) (reply_bytes reply)) }
 {
@@ -104,7 +104,7 @@ enum LineError {
     OutOfMemory,
 }
 
-/// The value that a line is in JSON.
+/// Returns the value that a line is in JSON. The line may end in a line feed.
 fn value_of(alloc: Global, line: &[u8]) -> Result<Value, LineError>
     ensures value { IfOk result (λ v. IsUtf8 line.now × (read line.now ≡ Some (view v))) }
     ensures refused { result ≡ Err LineError.Refused → IsUtf8 line.now → read line.now ≡ None }
@@ -121,7 +121,7 @@ fn value_of(alloc: Global, line: &[u8]) -> Result<Value, LineError>
     }
 }
 
-/// What is replied to a line, if there is memory for it.
+/// Returns the reply to a line, if there is memory for it.
 fn reply_made(alloc: Global, line: &[u8]) -> Result<Reply, OutOfMemory>
     ensures { IfOk result (λ reply. IsReply line.now (reply_bytes reply)) }
 {
@@ -136,7 +136,7 @@ fn reply_made(alloc: Global, line: &[u8]) -> Result<Reply, OutOfMemory>
     }
 }
 
-/// What is replied to a line.
+/// Returns the reply to a line.
 fn reply_to(alloc: Global, line: &[u8]) -> Reply
     ensures { IsReply line.now (reply_bytes result) }
 {
@@ -146,7 +146,8 @@ fn reply_to(alloc: Global, line: &[u8]) -> Reply
     }
 }
 
-/// Replies to each line of an input, up to its end.
+/// Reads the lines of an input one by one, and writes the reply to each before it reads the next. Returns where it ended. A
+/// line is as long as memory allows.
 pub(crate) fn reply_all<R: BufRead, O: Sink>(
     alloc: Global,
     input: &mut R,

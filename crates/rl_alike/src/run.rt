@@ -1,4 +1,4 @@
-//! The top call.
+//! The top call: a whole run of `relint-spans`, for any words, any input and any outputs.
 
 ghost use Rattle.std.specs.Prelude.{◌≡◌, ◌≤◌, map};
 ghost use Rattle.std.specs.String.{string_bytes};
@@ -14,7 +14,7 @@ use rl_source::{Sink, write_all};
 use std::alloc::Global;
 use std::io::BufRead;
 
-/// Does what the plan says, and answers the status.
+/// Does what the plan says, and returns the status of the run.
 fn carried_out<O: Sink, E: Sink>(plan: &Plan, out: &mut O, err: &mut E) -> u8
     ensures ends { EndsBy (ending_of plan.now) (sink_change O.bytes O.fault_count out.old out.new)
         (sink_change E.bytes E.fault_count err.old err.new) result }
@@ -37,7 +37,7 @@ fn carried_out<O: Sink, E: Sink>(plan: &Plan, out: &mut O, err: &mut E) -> u8
     }
 }
 
-/// Replies to each line of the input, and answers the status.
+/// Replies to each line of the input, and returns the status of the run.
 fn all_replied<R: BufRead, O: Sink, E: Sink>(
     alloc: Global,
     input: &mut R,
@@ -67,7 +67,7 @@ fn all_replied<R: BufRead, O: Sink, E: Sink>(
     }
 }
 
-/// Does what the words after the program's name ask for, and answers the run's status.
+/// Does what the words after the program's name ask for, and returns the status of the run.
 ///
 /// | Status | Comes |
 /// |---|---|
@@ -78,9 +78,10 @@ fn all_replied<R: BufRead, O: Sink, E: Sink>(
 /// | 4 | if a write to `out` failed |
 /// | 5 | if it was out of memory |
 ///
-/// With two patterns, what the run writes is built whole and then written to `out`, and the input isn't read. With the word `-` each
-/// line of the input is a question, and its reply is written to `out` before the next line is read. With the statuses from 2 to 5 a
-/// message is written to `err`; a write to `err` that fails changes no status, and the rest of the message is dropped.
+/// With two patterns, what the run writes is built whole and then written to `out`, and the input isn't read. With the word
+/// `-` each line of the input is a question, and its reply is written to `out` before the next line is read. With the statuses
+/// from 2 to 5 a message is written to `err`; a write to `err` that fails changes no status, and the rest of the message is
+/// dropped.
 pub fn spans_main<R: BufRead, O: Sink, E: Sink>(
     alloc: Global,
     words: &Vec<String>,

@@ -9,13 +9,13 @@ use rl_marks::How;
 use rl_pattern::Flags;
 use rl_syntax::Universe;
 
-/// The most pairs of the search, unless it is said.
+/// How many pairs of thread lists the search may reach, unless the call says otherwise.
 pub const USUAL_LIMIT: u32 = 6000;
 
-/// The greatest limit on pairs.
+/// The greatest limit on pairs that a call may give; the least is 1.
 pub const MOST_LIMIT: u32 = 999_999;
 
-/// How patterns are asked, by the word of a mode.
+/// Returns how patterns are asked, by the word of a mode, or `None` if it is no mode.
 pub(crate) fn how_of(word: &str) -> Option<How>
     ensures { result ≡ how_of word.now }
 {
@@ -27,28 +27,28 @@ pub(crate) fn how_of(word: &str) -> Option<How>
     }
 }
 
-/// Whether a text has a letter.
+/// Returns whether a text has a letter.
 fn has_letter(text: &str, letter: u8) -> bool
     ensures { result ≡ has_letter letter text.now }
 {
     text.bytes().any(|byte| byte == letter)
 }
 
-/// Whether the byte is the letter of a flag.
+/// Returns whether the byte is the letter of a flag.
 fn is_letter(byte: u8) -> bool
     ensures { result ≡ is_in "aimsuxL" byte }
 {
     matches!(byte, b'a' | b'i' | b'm' | b's' | b'u' | b'x' | b'L')
 }
 
-/// Whether a text has no more than the letters of flags.
+/// Returns whether each character of a text is the letter of a flag.
 fn has_letters_only(text: &str) -> bool
     ensures { result ≡ list_all (is_in "aimsuxL") text.now }
 {
     text.bytes().all(|byte| is_letter(byte))
 }
 
-/// The flags of a text of their letters.
+/// Returns the flags whose letters a text has, or `None` if it has a character that is the letter of no flag.
 pub(crate) fn flags_of(text: &str) -> Option<Flags>
     ensures { result ≡ flags_of text.now }
 {
@@ -66,7 +66,7 @@ pub(crate) fn flags_of(text: &str) -> Option<Flags>
     })
 }
 
-/// The universe of patterns, by whether they are bytes patterns.
+/// Returns the universe of bytes patterns, or of text patterns.
 pub(crate) fn universe_of(is_bytes: bool) -> Universe
     ensures { result ≡ universe_of is_bytes }
 {
@@ -77,7 +77,7 @@ pub(crate) fn universe_of(is_bytes: bool) -> Universe
     }
 }
 
-/// Whether a number may be the limit.
+/// Returns whether a number may be the limit on pairs: from 1 to [`MOST_LIMIT`].
 pub(crate) fn is_limit(number: u64) -> bool
     ensures { result ≡ is_limit number }
 {

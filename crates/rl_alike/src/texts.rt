@@ -1,11 +1,11 @@
-//! Answers as texts.
+//! Answers as texts. Positions are counted in codes from 0, and numbers are written in decimal.
 
 ghost use Rattle.std.specs.Prelude.{◌≡◌, ◌++◌, ℕ, IfOk, OnOk, Some};
 ghost use Rattle.std.specs.String.{string_bytes};
 ghost use Rattle.rl_ranges.specs.Text.{IsText};
-ghost use Rattle.rl_alike.specs.Texts.{difference_text, group_text, groups_text, last_text, match_text, passed_text, place_text, quoted_text, sight_text, span_text, value_text};
+ghost use Rattle.rl_alike.specs.Texts.{difference_text, group_text, groups_text, last_text, match_text, limit_text, place_text, quoted_text, sight_text, span_text, value_text};
 
-use crate::answer::{Difference, Passed};
+use crate::answer::{Difference, Limit};
 use rl_lists::{Codes, OutOfMemory};
 use rl_marks::MOST_GROUPS;
 use rl_pystr::quote;
@@ -14,14 +14,14 @@ use rl_spans::Sight;
 use rl_syntax::{MOST_MOVES, MOST_NODES, Universe};
 use std::alloc::Global;
 
-/// A span.
+/// Returns a span as a text: `(0, 2)`.
 fn span_text(alloc: Global, from: u32, upto: u32) -> Result<String, OutOfMemory>
     ensures { IfOk result (λ text. string_bytes text ≡ span_text (from, upto)) }
 {
     Ok(format!(in alloc; "({from}, {upto})")?)
 }
 
-/// The value of a group.
+/// Returns the value of a group as a text: its span, or `none`.
 fn value_text(alloc: Global, value: Option<(u32, u32)>) -> Result<String, OutOfMemory>
     ensures { IfOk result (λ text. string_bytes text ≡ value_text value) }
 {
@@ -39,7 +39,7 @@ fn push_text(out: &mut String, text: &str) -> Result<(), OutOfMemory>
     Ok(())
 }
 
-/// Appends a group with its value.
+/// Appends a group: a space, its number, and its value after `=`.
 fn push_group(
     alloc: Global,
     out: &mut String,
@@ -53,7 +53,7 @@ fn push_group(
     push_text(out, text.as_str())
 }
 
-/// Appends the values of the groups, numbered from 1 on.
+/// Appends the groups with these values, numbered from 1 on.
 fn push_groups(
     alloc: Global,
     out: &mut String,
@@ -68,7 +68,7 @@ fn push_groups(
     Ok(())
 }
 
-/// Appends which group was closed last, if one was.
+/// Appends ` last=` and the number of the group that was closed last, or nothing if no group was closed.
 fn push_last(alloc: Global, out: &mut String, last: Option<u32>) -> Result<(), OutOfMemory>
     ensures { OnOk result (string_bytes out.new ≡ string_bytes out.old ++ last_text last) }
 {
@@ -81,7 +81,7 @@ fn push_last(alloc: Global, out: &mut String, last: Option<u32>) -> Result<(), O
     }
 }
 
-/// What a match is shown as: its span, and its groups.
+/// Returns a match as a text: its span, its groups, and the group that was closed last.
 fn match_text(alloc: Global, sight: &Sight) -> Result<String, OutOfMemory>
     ensures { IfOk result (λ text. string_bytes text ≡ match_text sight.now) }
 {
@@ -91,10 +91,10 @@ fn match_text(alloc: Global, sight: &Sight) -> Result<String, OutOfMemory>
     Ok(out)
 }
 
-/// What a pattern finds, as a text.
+/// Returns what a pattern finds as a text: its match, or `none`.
 ///
 /// # Errors
-/// [`OutOfMemory`].
+/// [`OutOfMemory`] if there was no memory for the text.
 pub(crate) fn sight_text(alloc: Global, sight: &Option<Sight>) -> Result<String, OutOfMemory>
     ensures { IfOk result (λ text. string_bytes text ≡ sight_text sight.now) }
 {
@@ -104,25 +104,25 @@ pub(crate) fn sight_text(alloc: Global, sight: &Option<Sight>) -> Result<String,
     }
 }
 
-/// The limit that is passed.
+/// Returns a limit that is exceeded as a text, with its number: `size over 4000`.
 ///
 /// # Errors
-/// [`OutOfMemory`].
-pub(crate) fn passed_text(alloc: Global, passed: Passed) -> Result<String, OutOfMemory>
-    ensures { IfOk result (λ text. string_bytes text ≡ passed_text passed) }
+/// [`OutOfMemory`] if there was no memory for the text.
+pub(crate) fn limit_text(alloc: Global, limit: Limit) -> Result<String, OutOfMemory>
+    ensures { IfOk result (λ text. string_bytes text ≡ limit_text limit) }
 {
-    match passed {
-        Passed::Size => Ok(format!(in alloc; "size over {MOST_NODES}")?),
-        Passed::Letters => Ok(format!(in alloc; "letters over {MOST_LETTERS}")?),
-        Passed::Moves => Ok(format!(in alloc; "moves over {MOST_MOVES}")?),
-        Passed::Groups => Ok(format!(in alloc; "groups over {MOST_GROUPS}")?),
+    match limit {
+        Limit::Size => Ok(format!(in alloc; "size over {MOST_NODES}")?),
+        Limit::Letters => Ok(format!(in alloc; "letters over {MOST_LETTERS}")?),
+        Limit::Moves => Ok(format!(in alloc; "moves over {MOST_MOVES}")?),
+        Limit::Groups => Ok(format!(in alloc; "groups over {MOST_GROUPS}")?),
     }
 }
 
-/// A text of the universe as a literal of Python, which is ASCII.
+/// Returns a text of the universe as a literal of Python: `r"ab"`, or `br"ab"` for bytes. It has only ASCII characters.
 ///
 /// # Errors
-/// [`OutOfMemory`].
+/// [`OutOfMemory`] if there was no memory for the literal.
 pub(crate) fn literal(
     alloc: Global,
     text: &Codes,
@@ -138,7 +138,7 @@ pub(crate) fn literal(
     }
 }
 
-/// The place from which patterns are asked.
+/// Returns the position from which patterns are asked as a text, with ` not-empty` if only matches that aren't empty count.
 fn place_text(alloc: Global, from: u32, advance: bool) -> Result<String, OutOfMemory>
     ensures { IfOk result (λ text. string_bytes text ≡ place_text from advance) }
 {
@@ -149,10 +149,10 @@ fn place_text(alloc: Global, from: u32, advance: bool) -> Result<String, OutOfMe
     }
 }
 
-/// The lines on a text on which two patterns differ.
+/// Returns the lines that say on which text two patterns differ, from which position, and what each finds there.
 ///
 /// # Errors
-/// [`OutOfMemory`].
+/// [`OutOfMemory`] if there was no memory for the lines.
 pub(crate) fn difference_text(
     alloc: Global,
     universe: Universe,

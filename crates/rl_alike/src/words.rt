@@ -24,7 +24,7 @@ use std::alloc::Global;
 pub(crate) enum WordsError {
     /// They aren't a valid call.
     Invalid,
-    /// Out of memory.
+    /// Out of memory before it was known whether they are.
     OutOfMemory,
 }
 
@@ -48,6 +48,7 @@ pub(crate) const NO_FLAGS: Flags = Flags {
     locale: false,
 };
 
+/// Returns how patterns are asked, by `--mode`, or `None` if it names no mode.
 fn how_given(matches: &ArgMatches) -> Option<How>
     ensures { result ≡ or_usual how_of Match (first_of (codes "mode") (rows_of (found_of matches.now))) }
 {
@@ -57,6 +58,7 @@ fn how_given(matches: &ArgMatches) -> Option<How>
     }
 }
 
+/// Returns the flags by `--flags`, or `None` if a character of it is the letter of no flag.
 fn flags_given(matches: &ArgMatches) -> Option<Flags>
     ensures { result ≡ or_usual flags_of no_flags (first_of (codes "flags") (rows_of (found_of matches.now))) }
 {
@@ -66,6 +68,7 @@ fn flags_given(matches: &ArgMatches) -> Option<Flags>
     }
 }
 
+/// Returns the limit on pairs by `--limit`, or `None` if it is refused.
 fn limit_given(matches: &ArgMatches) -> Option<u32>
     ensures { result ≡ or_usual limit_of USUAL_LIMIT (first_of (codes "limit") (rows_of (found_of matches.now))) }
 {
@@ -75,6 +78,7 @@ fn limit_given(matches: &ArgMatches) -> Option<u32>
     }
 }
 
+/// Returns whether `--bytes` is given.
 fn is_bytes_given(matches: &ArgMatches) -> bool
     ensures { result ≡ is_bytes (first_of (codes "bytes") (rows_of (found_of matches.now))) }
 {
@@ -84,7 +88,7 @@ fn is_bytes_given(matches: &ArgMatches) -> bool
     }
 }
 
-// How the patterns are compared, or `None` if a value is refused.
+/// Returns how the patterns are compared, by the options, or `None` if the value of one is refused.
 fn terms_given(matches: &ArgMatches) -> Option<Terms>
     ensures { result ≡ terms_given (rows_of (found_of matches.now)) }
 {
@@ -99,6 +103,7 @@ fn terms_given(matches: &ArgMatches) -> Option<Terms>
     })
 }
 
+/// Returns the call by the words that aren't options: two patterns, or the word `-` alone; `None` for any other words.
 fn call_of<'a>(terms: Terms, patterns: &[&'a str]) -> Option<Called<'a>>
     ensures { option_map called result ≡ call_of terms (texts patterns.now) }
 {
@@ -119,7 +124,7 @@ fn call_of<'a>(terms: Terms, patterns: &[&'a str]) -> Option<Called<'a>>
     }
 }
 
-// The call, or `None` if the words aren't a valid one.
+/// Returns the call that the arguments and options make, or `None` if they make none.
 fn call_given<'a>(matches: &ArgMatches<'a>) -> Option<Called<'a>>
     ensures { option_map called result ≡ call_given (rows_of (found_of matches.now)) }
 {
@@ -130,10 +135,11 @@ fn call_given<'a>(matches: &ArgMatches<'a>) -> Option<Called<'a>>
     }
 }
 
-/// What the words after the program's name ask for.
+/// Returns what the words after the program's name ask for.
 ///
 /// # Errors
-/// [`WordsError::Invalid`] exactly where the words aren't a valid call; [`WordsError::OutOfMemory`].
+/// [`WordsError::Invalid`] only if the words aren't a valid call, [`WordsError::OutOfMemory`] if there was no memory to read
+/// them.
 pub(crate) fn read_words<'a>(
     alloc: Global,
     words: &'a Vec<String>,
@@ -155,7 +161,7 @@ pub(crate) fn read_words<'a>(
     }
 }
 
-/// What is told if the words aren't a valid call.
+/// Returns what is written if the words aren't a valid call.
 #[tactic(auto, unfolding(crate::specs::Words::usage_text))]
 pub(crate) fn usage_text() -> &'static str
     ensures { result.now ≡ usage_text }

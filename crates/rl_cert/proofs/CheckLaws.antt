@@ -18,10 +18,10 @@ use Rattle.rl_prio.specs.Letters.{letters}
 use Rattle.rl_pairs.specs.declared.pair.Pair.{Pair}
 use Rattle.rl_pairs.specs.PairGraph.{IsPairGraph, IsNumbered}
 use Rattle.rl_pairs.specs.Counted.{CountedSet, MoreThan}
-use Rattle.rl_pairs.specs.RightVerdict.{Question, IsMachine, IsPassed, RightVerdict}
+use Rattle.rl_pairs.specs.RightVerdict.{Question, IsMachine, IsExceeded, RightVerdict}
 use Rattle.rl_growth.proofs.VerdictLaws.{small, none_passed}
 use Rattle.rl_cert.specs.declared.certificate.Certificate.{Certificate}
-use Rattle.rl_cert.specs.Holds.{Holds, IsField, Shows}
+use Rattle.rl_cert.specs.Holds.{Holds, IsPairGraphOf, Shows}
 use Rattle.rl_cert.proofs.Soundness.{sound}
 use Rattle.rl_cert.proofs.SameShows.{shows-same}
 
@@ -42,16 +42,8 @@ no-cycle-state g p parts whole none q l w = by (cases_lt q g.states)
 pub flat-graph : (g : Graph) (p : PartTable) (k : ℕ) → IsParts (edges_of g) g.states p → IsWhole g → g.states ≤ k → ((q : ℕ) → q < k → cycle_of p q ≡ false) → IsTrue true ↔ HasNoCycle (edges_of g)
 flat-graph g p k parts whole past none = (λ e. no-cycle-state g p parts whole (λ q lt. none q (omega (arith, lt, past))), λ h. refl)
 
-pub has-cycle : (g : Graph) (p : PartTable) (q : ℕ) → IsParts (edges_of g) g.states p → q < g.states → cycle_of p q ≡ true → IsTrue false ↔ HasNoCycle (edges_of g)
-has-cycle g p q parts lt on =
-    let c = (parts.on_cycle q lt).0 on in
-    (λ e. absurd (true≢false (sym e)), λ h. absurd (never (paths (edges_of g) q q (c.0 ∷ c.1)) c.2 (h q c.0 c.1)))
-  where
-    never : (n : ℕ) → 1 ≤ n → n ≡ 0 → ⊥
-    never n le e = omega (arith, le, e)
-
 -- If a limit is exceeded, no certificate holds.
-pub none-holds : (q : Question) (c : Certificate) (limit : Limit) → IsPassed q limit → IsTrue false ↔ Holds q c
+pub none-holds : (q : Question) (c : Certificate) (limit : Limit) → IsExceeded q limit → IsTrue false ↔ Holds q c
 none-holds q c limit passed = (λ e. absurd (true≢false (sym e)), λ h. absurd (h.within limit passed))
 
 -- Else what the graph that was found shows decides.
@@ -60,7 +52,7 @@ pub shown-decides : (q : Question) (c : Certificate) (a : Automaton) (next : ℕ
     → (held : Bool) → IsTrue held ↔ Shows q a next at n c c.verdict → IsTrue held ↔ Holds q c
 shown-decides q c a next at n stands codes whole s l m g numbered few sets held iff =
     let machine : IsMachine q a = record { stands = stands; same_codes = codes } in
-    let field : IsField q a next at n = record { machine = machine; whole = whole; graph = g; numbered = numbered } in (
+    let field : IsPairGraphOf q a next at n = record { machine = machine; whole = whole; graph = g; numbered = numbered } in (
       λ e. record { within = none_passed q a next at n machine (small q s l m) g few sets; automaton = a; moves = next; pairs = at; count = n; field = field; shows = iff.0 e },
       λ h. iff.1 (shows-same q h.automaton a h.moves next h.pairs at h.count n h.field field c c.verdict h.shows),
     )

@@ -28,7 +28,7 @@ use Rattle.rl_pairs.specs.PairTable.{PairTable, moves_in, pair_in}
 use Rattle.rl_pairs.specs.RightVerdict.{IsNamed}
 use Rattle.rl_cert.specs.declared.making.CertError.{CertError}
 use Rattle.rl_cert.specs.declared.making.CertError.TheVariants.{Undecided, TooLarge, OutOfMemory}
-use Rattle.rl_cert.specs.Form.{IsTold}
+use Rattle.rl_cert.specs.Form.{IsDecided}
 use Rattle.rl_cert.specs.internal.Made.{IsMade, IsLarge}
 use Rattle.rl_growth.proofs.VerdictLaws.{small, none_passed}
 use Rattle.rl_syntax.specs.Tree.{size}
@@ -39,7 +39,7 @@ use Rattle.rl_prio.specs.Letters.{all_sets}
 use Rattle.rl_pairs.specs.declared.pair.Pair.{Pair}
 use Rattle.rl_pairs.specs.PairGraph.{IsPairGraph}
 use Rattle.rl_pairs.specs.Families.{Chained, chain_heads, chain_pumps, Spells}
-use Rattle.rl_pairs.specs.RightVerdict.{Question, IsPassed}
+use Rattle.rl_pairs.specs.RightVerdict.{Question, IsExceeded}
 use Rattle.rl_pairs.proofs.StillLaws.{still_of}
 use Rattle.rl_pairs.proofs.CostLaws.{twin-inside, chain-inside}
 use Rattle.rl_pairs.proofs.FamilyLaws.{spells-reads}
@@ -57,7 +57,7 @@ use Rattle.rl_numbers.specs.declared.numbering.TheConstants.{MOST_TRIPLES}
 use Rattle.rl_cert.specs.declared.certificate.Anchor.{Anchor}
 use Rattle.rl_cert.specs.declared.certificate.Certificate.{Certificate}
 use Rattle.rl_cert.specs.Ways.{IsWay, IsTwinWay, chain_anchors}
-use Rattle.rl_cert.specs.Holds.{Holds, IsField, Shows, ShowsDegree, ShowsDegreeOf, words_of}
+use Rattle.rl_cert.specs.Holds.{Holds, IsPairGraphOf, Shows, ShowsDegree, ShowsDegreeOf, words_of}
 use Rattle.rl_cert.specs.TooLarge.{IsTooLarge}
 use Rattle.rl_cert.proofs.OneGraph.{moves-same}
 use Rattle.rl_cert.proofs.WayLaws.{same-way}
@@ -104,7 +104,7 @@ same-twin-way a next at n anchors others heads tops pumps turns e f g w =
 same-spells : (a : Automaton) (f : Family) (heads tops pumps turns : List (List ℕ)) → heads ≡ tops → pumps ≡ turns → Spells a f heads pumps → Spells a f tops turns
 same-spells a f heads tops pumps turns e g s = subst (Spells a f tops) g (subst (λ (v : List (List ℕ)). Spells a f v pumps) e s)
 
-module _ (q : Question) (a : Automaton) (next : ℕ → ℕ → List ℕ) (at : ℕ → Pair) (n : ℕ) (field : IsField q a next at n) (within : (limit : Limit) → IsPassed q limit → ⊥) where
+module _ (q : Question) (a : Automaton) (next : ℕ → ℕ → List ℕ) (at : ℕ → Pair) (n : ℕ) (field : IsPairGraphOf q a next at n) (within : (limit : Limit) → IsExceeded q limit → ⊥) where
   no-moves : (t : IsTooLarge q) → HasNoTwin next
   no-moves t = subst HasNoTwin (moves-same q t.automaton a t.moves next t.pairs at t.count n t.field field) t.no_twin
 
@@ -206,7 +206,7 @@ pub made-holds : (q : Question) (a : Automaton) (g : PairTable) (r : Result Cert
     → size q.tree ≤ MOST_NODES → length (letters q.tree (code_count q.universe)) ≤ MOST_LETTERS → longest_list q.tree ≤ MOST_MOVES → IsPairGraph a (moves_in g) (pair_in g) g.graph.states → IsNumbered a (moves_in g) (pair_in g) g.graph.states → g.graph.states ≤ q.max_pairs → (MoreThan MOST_COUNTED_SETS (CountedSet a) → ⊥)
     → IfOk r (IsMade a g) → IfOk r (λ c. Holds q c × (IsTooLarge q → ⊥))
 made-holds q a g (Ok c) stands codes whole s l m graph numbered few sets made =
-    let field : IsField q a (moves_in g) (pair_in g) g.graph.states = record { machine = record { stands = stands; same_codes = codes }; whole = whole; graph = graph; numbered = numbered } in
+    let field : IsPairGraphOf q a (moves_in g) (pair_in g) g.graph.states = record { machine = record { stands = stands; same_codes = codes }; whole = whole; graph = graph; numbered = numbered } in
     let within = none_passed q a (moves_in g) (pair_in g) g.graph.states field.machine (small q s l m) graph few sets in
     let shows = made q field within in
     (record { within = within; automaton = a; moves = moves_in g; pairs = pair_in g; count = g.graph.states; field = field; shows = shows.0 }, shows.1)
@@ -217,7 +217,7 @@ pub made-large : (q : Question) (a : Automaton) (g : PairTable) (r : Result Cert
     → (r ≡ Err TooLarge → IsLarge a g) → IfErr r (λ e. e ≡ TooLarge → IsTooLarge q)
 made-large q a g (Ok c) stands codes whole s l m graph numbered few sets large = tt
 made-large q a g (Err e) stands codes whole s l m graph numbered few sets large = λ same.
-    let field : IsField q a (moves_in g) (pair_in g) g.graph.states = record { machine = record { stands = stands; same_codes = codes }; whole = whole; graph = graph; numbered = numbered } in
+    let field : IsPairGraphOf q a (moves_in g) (pair_in g) g.graph.states = record { machine = record { stands = stands; same_codes = codes }; whole = whole; graph = graph; numbered = numbered } in
     large (ap (λ (x : CertError). Err x) same) q field (none_passed q a (moves_in g) (pair_in g) g.graph.states field.machine (small q s l m) graph few sets)
 
 pub made-told : (q : Question) (r : Result Certificate CertError) → ((limit : Limit) → r ≡ Err (Undecided limit) → ⊥) → IfErr r (λ e. (limit : Limit) → e ≡ Undecided limit → IsNamed q limit)
@@ -235,7 +235,7 @@ unfolding limit_of
 limit-named q limit other named same = subst (IsNamed q) (ap limit_of same) named
 
 -- A verdict that is shown isn't undecided.
-pub shown-told : (q : Question) (a : Automaton) (next : ℕ → ℕ → List ℕ) (at : ℕ → Pair) (n : ℕ) (c : Certificate) (v : Verdict) → Shows q a next at n c v → IsTold v
+pub shown-told : (q : Question) (a : Automaton) (next : ℕ → ℕ → List ℕ) (at : ℕ → Pair) (n : ℕ) (c : Certificate) (v : Verdict) → Shows q a next at n c v → IsDecided v
 shown-told q a next at n c (Degree d f) shows = tt
 shown-told q a next at n c (Expo f) shows = tt
 shown-told q a next at n c (Open limit) shows = absurd shows
@@ -279,7 +279,7 @@ pub ok-fits : (q : Question) (r : Result Certificate CertError) → IfOk r (λ c
 ok-fits q (Ok c) h = h.1
 ok-fits q (Err e) h = tt
 
-pub ok-told : (q : Question) (r : Result Certificate CertError) → IfOk r (λ c. Holds q c × (IsTooLarge q → ⊥)) → IfOk r (λ c. IsTold c.verdict)
+pub ok-told : (q : Question) (r : Result Certificate CertError) → IfOk r (λ c. Holds q c × (IsTooLarge q → ⊥)) → IfOk r (λ c. IsDecided c.verdict)
 ok-told q (Ok c) h = shown-told q h.0.automaton h.0.moves h.0.pairs h.0.count c c.verdict h.0.shows
 ok-told q (Err e) h = tt
 

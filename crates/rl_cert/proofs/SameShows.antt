@@ -17,14 +17,14 @@ use Rattle.rl_pairs.proofs.SameLaws.{same-machines, refuses-same}
 use Rattle.rl_cert.specs.declared.certificate.Anchor.{Anchor}
 use Rattle.rl_cert.specs.declared.certificate.Certificate.{Certificate}
 use Rattle.rl_cert.specs.Ways.{Refuses, IsWay, IsTwinWay}
-use Rattle.rl_cert.specs.Holds.{IsField, words_of, ShowsDegreeOf, Shows}
+use Rattle.rl_cert.specs.Holds.{IsPairGraphOf, words_of, ShowsDegreeOf, Shows}
 use Rattle.rl_cert.proofs.OneGraph.{count-same, moves-same, pairs-same}
 
 map-same : {A B : Type 0} (f g : A → B) (l : List A) → ((x : A) → Has x l → f x ≡ g x) → map f l ≡ map g l
 map-same f g [] h = refl
 map-same f g (x ∷ l) h = ap₂ ◌∷◌ (h x (inl refl)) (map-same f g l (λ y i. h y (inr i)))
 
-module _ (q : Question) (a b : Automaton) (next other : ℕ → ℕ → List ℕ) (at with : ℕ → Pair) (n o : ℕ) (f : IsField q a next at n) (h : IsField q b other with o) where
+module _ (q : Question) (a b : Automaton) (next other : ℕ → ℕ → List ℕ) (at with : ℕ → Pair) (n o : ℕ) (f : IsPairGraphOf q a next at n) (h : IsPairGraphOf q b other with o) where
   codes : a.table.codes ≡ b.table.codes
   codes = f.machine.same_codes ∙ sym h.machine.same_codes
 

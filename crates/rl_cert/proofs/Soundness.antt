@@ -23,7 +23,7 @@ use Rattle.rl_degree.proofs.WithoutSplit.{without_cycle}
 use Rattle.rl_pairs.specs.declared.pair.Pair.{Pair}
 use Rattle.rl_pairs.specs.Families.{Chained, chain_heads, chain_pumps, letters_in, to_end, Reads}
 use Rattle.rl_pairs.specs.LivePairs.{refused}
-use Rattle.rl_pairs.specs.RightVerdict.{Question, IsPassed, HasDegree, IsExpo, IsBounded as IsBoundedCost, RightVerdict}
+use Rattle.rl_pairs.specs.RightVerdict.{Question, IsExceeded, HasDegree, IsExpo, IsBounded as IsBoundedCost, RightVerdict}
 use Rattle.rl_pairs.proofs.StillLaws.{All-has}
 use Rattle.rl_pairs.proofs.CostLaws.{twin_reads, chain_reads}
 use Rattle.rl_pairs.proofs.VerdictLaws.{flat_verdict, bounded_degree, bounded_flat, graph-bounded, graph-within, few-states}
@@ -33,7 +33,7 @@ use Rattle.rl_numbers.specs.Numbered.{AreTriples, is_triple, triple_number}
 use Rattle.rl_numbers.specs.Doubled.{AreDoubles, is_double, double_number}
 use Rattle.rl_cert.specs.Numbered.{AreLevels}
 use Rattle.rl_cert.specs.Ways.{IsWay, IsTwinWay}
-use Rattle.rl_cert.specs.Holds.{IsField, words_of, ShowsDegreeOf, Shows, Holds}
+use Rattle.rl_cert.specs.Holds.{IsPairGraphOf, words_of, ShowsDegreeOf, Shows, Holds}
 
 -- The chain along a way.
 record IsChainOf (a : Automaton) (next : ℕ → ℕ → List ℕ) (at : ℕ → Pair) (s : ℕ) (heads pumps : List (List ℕ)) : Type 0 where
@@ -99,7 +99,7 @@ some-letters : (a : Automaton) (w : List ℕ) → w ≢ [] → 1 ≤ length (let
 some-letters a [] ne = absurd (ne refl)
 some-letters a (c ∷ w) ne = omega arith
 
-module _ (q : Question) (a : Automaton) (next : ℕ → ℕ → List ℕ) (at : ℕ → Pair) (n : ℕ) (field : IsField q a next at n) (within : (limit : Limit) → IsPassed q limit → ⊥) where
+module _ (q : Question) (a : Automaton) (next : ℕ → ℕ → List ℕ) (at : ℕ → Pair) (n : ℕ) (field : IsPairGraphOf q a next at n) (within : (limit : Limit) → IsExceeded q limit → ⊥) where
   reads : (d : ℕ) (f : Family) (heads pumps : List (List ℕ)) → IsFamily q.universe d f → words_of a f.heads ≡ heads → words_of a f.pumps ≡ pumps → Reads a f heads pumps
   reads d f heads pumps family e h = record {
     head_codes = subst (λ (m : ℕ). All (All (λ c. c < m)) f.heads) (sym field.machine.same_codes) family.head_texts;

@@ -1,4 +1,8 @@
-//! The states of an automaton that accept a list of letters.
+//! The states of an automaton that accept a list of letters. A state accepts a list of letters if it is the accepting state,
+//! or if it has a move on the first letter to a state that accepts the remaining letters. A pair is a state of the automaton
+//! with a set: the states that were tried before it. A rest is a list of letters followed by the end letter; a set refuses it
+//! if none of its members accepts it. A live pair is the first pair, or a pair whose set refuses some rest and to which a live
+//! pair has a move. The live pairs are the states of a graph, numbered from 0.
 
 ghost use Rattle.std.specs.Prelude.{◌≡◌, ℕ, ◌+◌, ◌<◌, ◌≤◌, ◌∷◌, [], All, List, length, slice_index_or, false, IfOk, IsTrue, ◌↔◌};
 ghost use Rattle.std.specs.List.{list_any};
@@ -13,7 +17,7 @@ use rl_pairs::PairGraph;
 use rl_prio::Prio;
 use std::alloc::Global;
 
-/// Whether some state of a list is marked in a column.
+/// Returns whether some state of a list is marked in a column. States beyond its end aren't marked.
 fn any_in(states: &[u32], column: &[bool]) -> bool
     ensures { result ≡ list_any (λ m. slice_index_or column.now m false) states.now }
 {
@@ -26,7 +30,7 @@ fn any_in(states: &[u32], column: &[bool]) -> bool
     false
 }
 
-/// Marks the states that accept the empty list.
+/// Returns the column of the empty list, in which only the accepting state is marked.
 fn start(alloc: Global, a: &Prio) -> Result<Vec<bool>, OutOfMemory>
     ensures { IfOk result (λ v. IsAccepting a.now [] v.items) }
 {
@@ -38,7 +42,8 @@ fn start(alloc: Global, a: &Prio) -> Result<Vec<bool>, OutOfMemory>
     Ok(column)
 }
 
-/// Marks the states that accept a list with one more letter in front, given the column of the list.
+/// Returns the column of a list with `letter` added in front, given the column of the list. It marks the states that accept
+/// the longer list.
 fn before(alloc: Global, a: &Prio, letter: u32, column: &[bool]) -> Result<Vec<bool>, OutOfMemory>
     requires letter_in { letter ≤ letters_count a.now }
     ensures { IfOk result (λ v. (word : List ℕ) → IsAccepting a.now word column.now → IsAccepting a.now (letter ∷ word) v.items) }
@@ -51,7 +56,8 @@ fn before(alloc: Global, a: &Prio, letter: u32, column: &[bool]) -> Result<Vec<b
     Ok(longer)
 }
 
-/// Marks the states that accept the word followed by the end letter.
+/// Returns a column, which has a truth value for each state, at the state's number: whether the state accepts the word
+/// followed by the end letter. The word must consist of letters of the automaton other than the end letter; it may be empty.
 ///
 /// # Errors
 /// [`OutOfMemory`] if there is not enough memory for the columns.
@@ -69,7 +75,9 @@ pub fn accepting(alloc: Global, a: &Prio, word: &[u32]) -> Result<Vec<bool>, Out
     Ok(column)
 }
 
-/// Whether the set of a live pair refuses the word followed by the end letter.
+/// Returns whether the set of the live pair with the number `state` refuses the word followed by the end letter, that is,
+/// whether none of its states accepts this list. The graph must have a pair with this number, and the word must consist of
+/// letters other than the end letter.
 ///
 /// # Errors
 /// [`OutOfMemory`] if there is not enough memory for the columns.

@@ -1,4 +1,8 @@
-//! Checking whether a certificate holds.
+//! Checking whether a certificate holds. A pair is a state of the automaton with a set: the states that were tried before it.
+//! A rest is a list of letters followed by the end letter; a set refuses it if none of its members accepts it. A live pair is
+//! the first pair, or a pair whose set refuses some rest and to which a live pair has a move. The live pairs are the states of
+//! a graph, numbered from 0. A certificate is a verdict with its family, which is made of texts, and lists of numbers that
+//! show in this graph that the verdict is right.
 
 ghost use Rattle.std.specs.Prelude.{◌≡◌, ℕ, ◌+◌, ◌<◌, ◌≤◌, ◌↔◌, All, IsTrue, IfOk, length};
 ghost use Rattle.rl_graph.specs.Graph.{edges_of};
@@ -29,7 +33,7 @@ use rl_prio::{Prio, PrioError};
 use rl_syntax::{Family, Lowered, MOST_NODES, Universe, Verdict};
 use std::alloc::Global;
 
-/// Whether no state is on a cycle.
+/// Returns whether no state is on a cycle.
 fn is_flat(g: &Multigraph) -> Result<bool, OutOfMemory>
     ensures { IfOk result (λ yes. IsTrue yes ↔ HasNoCycle (edges_of g.now)) }
 {
@@ -42,7 +46,7 @@ fn is_flat(g: &Multigraph) -> Result<bool, OutOfMemory>
     Ok(true)
 }
 
-/// Whether the anchors of a certificate are on the path of its family.
+/// Returns whether the anchors of a certificate are on the path of its family.
 fn shows_way(
     alloc: Global,
     a: &Prio,
@@ -63,7 +67,7 @@ fn shows_way(
     is_way(alloc, a, g, anchors, heads.as_slice(), pumps.as_slice())
 }
 
-/// Whether a certificate shows its family and its upper bound, for a degree of 1 or more.
+/// Returns whether a certificate shows its family and its upper bound, for a degree of 1 or more.
 fn shows_degree(
     alloc: Global,
     a: &Prio,
@@ -92,7 +96,7 @@ fn shows_degree(
     triples_hold(alloc, g.graph(), c.ranks.as_slice(), c.triples.as_slice())
 }
 
-/// Whether a certificate shows its exponential family.
+/// Returns whether a certificate shows its exponential family.
 fn shows_expo(
     alloc: Global,
     a: &Prio,
@@ -112,7 +116,7 @@ fn shows_expo(
     is_twin_way(alloc, a, g, anchors, heads.as_slice(), pumps.as_slice())
 }
 
-/// Whether a certificate shows, in the graph of live pairs, what its verdict requires.
+/// Returns whether a certificate shows, in the graph of live pairs, what its verdict requires.
 fn shown(
     alloc: Global,
     u: Universe,
@@ -146,7 +150,7 @@ fn shown(
     }
 }
 
-/// Whether a certificate holds for a tree for which an automaton stands.
+/// Returns whether a certificate holds for a tree for which an automaton stands.
 fn checked_over(
     alloc: Global,
     l: &Lowered,
@@ -163,6 +167,7 @@ fn checked_over(
     requires within { (length (letters (tree_of l.now.tree) (code_count u)) ≤ MOST_LETTERS) × (longest (tree_of l.now.tree) ≤ MOST_MOVES) }
     ensures { IfOk result (λ yes. IsTrue yes ↔ Holds (question_of l.now u max_pairs) c.now) }
 {
+    // Reading the number of states tells the prover that the automaton is well formed.
     let _states = a.states();
     match pairs(alloc, a, max_pairs) {
         Ok(g) => {
@@ -176,7 +181,7 @@ fn checked_over(
     }
 }
 
-/// Whether a certificate holds for a tree that is within the limit on its size.
+/// Returns whether a certificate holds for a tree that is within the limit on its size.
 fn checked_small(
     alloc: Global,
     l: &Lowered,
@@ -202,7 +207,10 @@ fn checked_small(
     }
 }
 
-/// Whether a certificate holds for a lowered pattern, over the texts of the universe, with at most `max_pairs` live pairs.
+/// Returns whether a certificate holds for a lowered pattern, over the texts of the universe `u`, with at most `max_pairs`
+/// live pairs: whether no limit is exceeded and the certificate's family and lists show, in the graph of live pairs, that its
+/// verdict is right. If so, the verdict is right. It returns false if a limit is exceeded. `max_pairs` must be from 1 to
+/// [`MOST_PAIRS`](rl_syntax::MOST_PAIRS), and the sets of the pattern must have only codes of the universe.
 ///
 /// # Errors
 /// [`OutOfMemory`] if there is not enough memory for the automaton, the graph or the index of the numbers.

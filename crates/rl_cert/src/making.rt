@@ -1,4 +1,8 @@
-//! Making certificates.
+//! Making certificates. A pair is a state of the automaton with a set: the states that were tried before it. A rest is a list
+//! of letters followed by the end letter; a set refuses it if none of its members accepts it. A live pair is the first pair,
+//! or a pair whose set refuses some rest and to which a live pair has a move. The live pairs are the states of a graph,
+//! numbered from 0. A split is two different states with paths along one word from the first to itself, from the first to the
+//! second, and from the second to itself. The rank of a state is the length of a longest chain of splits from it.
 
 ghost use Rattle.std.specs.Prelude.{◌≡◌, ℕ, ◌+◌, ◌<◌, ◌≤◌, [], ◌∷◌, List, length, slice_index, IfOk, IfErr, OnOk};
 ghost use Rattle.rl_graph.specs.Graph.{edges_of};
@@ -28,7 +32,7 @@ ghost use Rattle.rl_prio.specs.Letters.{letters};
 ghost use Rattle.rl_prio.specs.StandsFor.{StandsFor};
 ghost use Rattle.rl_syntax.specs.declared.limits.TheConstants.{MOST_PAIRS};
 ghost use Rattle.rl_pairs.specs.RightVerdict.{IsNamed};
-ghost use Rattle.rl_cert.specs.Form.{IsTold};
+ghost use Rattle.rl_cert.specs.Form.{IsDecided};
 ghost use Rattle.rl_cert.specs.Holds.{Holds, question_of};
 ghost use Rattle.rl_cert.specs.TooLarge.{IsTooLarge};
 
@@ -47,12 +51,14 @@ use rl_prio::{Prio, PrioError};
 use rl_syntax::{Family, Limit, Lowered, MOST_NODES, Universe, Verdict};
 use std::alloc::Global;
 
-/// The reason why no certificate is made.
+/// The reason why no certificate is made. A triple is three states of the graph of live pairs with the same rank. The least
+/// closed list of triples has `(r, r, q)` for all different states `r` and `q` of the same rank that lie on cycles, and all
+/// triples that moves of the three states on the same letters, to states of the same rank, lead to from these.
 #[derive(Clone, Copy, Debug, PartialEq, Eq)]
 pub enum CertError {
-    /// A limit is exceeded.
+    /// This limit is exceeded.
     Undecided(Limit),
-    /// More than 1,000,000 triples would be needed.
+    /// The degree is 1 or more, and the least closed list of triples has more than 1,000,000 of them.
     TooLarge,
     /// Out of memory.
     OutOfMemory,
@@ -214,7 +220,8 @@ fn places_of(alloc: Global, chain: &Chain, alone: u32) -> Result<(Anchors, Ranks
     Ok((anchors, ranks))
 }
 
-/// Returns the doubles and the triples of a graph with the given ranks.
+/// Returns the doubles and the triples of a graph with the given ranks, which exclude a twin and a split between states of the
+/// same rank.
 fn numbers_of(alloc: Global, g: &Multigraph, ranks: &[u32]) -> Result<(Doubles, Triples), CertError>
     requires few_states { g.now.states < 65536 }
     requires no_twin { HasNoTwin (edges_of g.now) }
@@ -363,11 +370,12 @@ fn made_over(
     requires codes { a.now.table.codes ≡ code_count u }
     requires within { (length (letters (tree_of l.now.tree) (code_count u)) ≤ MOST_LETTERS) × (longest (tree_of l.now.tree) ≤ MOST_MOVES) }
     ensures holds { IfOk result (Holds (question_of l.now u max_pairs)) }
-    ensures told { IfOk result (λ c. IsTold c.verdict) }
+    ensures told { IfOk result (λ c. IsDecided c.verdict) }
     ensures fits { IfOk result (λ c. IsTooLarge (question_of l.now u max_pairs) → ⊥) }
     ensures undecided { IfErr result (λ e. (limit : Limit) → e ≡ CertError.Undecided limit → IsNamed (question_of l.now u max_pairs) limit) }
     ensures too_large { IfErr result (λ e. e ≡ CertError.TooLarge → IsTooLarge (question_of l.now u max_pairs)) }
 {
+    // Reading the number of states tells the prover that the automaton is well formed.
     let _states = a.states();
     match pairs(alloc, a, max_pairs) {
         Ok(g) => {
@@ -393,7 +401,7 @@ fn made_small(
     requires inside { IsOver u (tree_of l.now.tree) }
     requires small { size (tree_of l.now.tree) ≤ MOST_NODES }
     ensures holds { IfOk result (Holds (question_of l.now u max_pairs)) }
-    ensures told { IfOk result (λ c. IsTold c.verdict) }
+    ensures told { IfOk result (λ c. IsDecided c.verdict) }
     ensures fits { IfOk result (λ c. IsTooLarge (question_of l.now u max_pairs) → ⊥) }
     ensures undecided { IfErr result (λ e. (limit : Limit) → e ≡ CertError.Undecided limit → IsNamed (question_of l.now u max_pairs) limit) }
     ensures too_large { IfErr result (λ e. e ≡ CertError.TooLarge → IsTooLarge (question_of l.now u max_pairs)) }
@@ -410,12 +418,14 @@ fn made_small(
     }
 }
 
-/// Makes a certificate for a lowered pattern, over the texts of the universe, with at most `max_pairs` live pairs.
+/// Returns a certificate for a lowered pattern, over the texts of the universe `u`, with at most `max_pairs` live pairs. It
+/// holds, and its verdict, a degree or exponential growth, is right. `max_pairs` must be from 1 to
+/// [`MOST_PAIRS`](rl_syntax::MOST_PAIRS), and the sets of the pattern must have only codes of the universe.
 ///
 /// # Errors
 /// [`CertError::Undecided`], with the limit, if a limit is exceeded; [`CertError::TooLarge`] if no limit is exceeded, the
-/// degree is 1 or more and the least list of triples has more than 1,000,000 triples; [`CertError::OutOfMemory`] if there is
-/// not enough memory for the automaton, the graph, its products or the certificate.
+/// degree is 1 or more and the least closed list of triples has more than 1,000,000 triples; [`CertError::OutOfMemory`] if
+/// there is not enough memory for the automaton, the graph, its products or the certificate.
 pub fn make(
     alloc: Global,
     l: &Lowered,
@@ -426,7 +436,7 @@ pub fn make(
     requires few { max_pairs ≤ MOST_PAIRS }
     requires inside { IsOver u (tree_of l.now.tree) }
     ensures holds { IfOk result (Holds (question_of l.now u max_pairs)) }
-    ensures told { IfOk result (λ c. IsTold c.verdict) }
+    ensures told { IfOk result (λ c. IsDecided c.verdict) }
     ensures fits { IfOk result (λ c. IsTooLarge (question_of l.now u max_pairs) → ⊥) }
     ensures undecided { IfErr result (λ e. (limit : Limit) → e ≡ CertError.Undecided limit → IsNamed (question_of l.now u max_pairs) limit) }
     ensures too_large { IfErr result (λ e. e ≡ CertError.TooLarge → IsTooLarge (question_of l.now u max_pairs)) }

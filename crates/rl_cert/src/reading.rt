@@ -48,7 +48,7 @@ fn number_of(value: &Value) -> Option<u32>
     }
 }
 
-/// Reads a row of numbers.
+/// Returns the value as a row of numbers, or refuses it.
 #[tactic(auto, using(crate::proofs::ReadRows::reading))]
 fn row_of(alloc: Global, value: &Value) -> Result<Word, ReadError>
     ensures row { IfOk result (λ row. row_read (view value.now) ≡ Some row) }
@@ -282,7 +282,7 @@ fn member_count(value: &Value) -> usize
     }
 }
 
-/// Returns the kind of a certificate.
+/// Returns the kind of a certificate, or `None` if there is no string at the key `kind`.
 fn kind_at(value: &Value) -> Option<&str>
     ensures { option_map (λ t. t.now) result ≡ read_at as_str (codes "kind") (view value.now) }
 {
@@ -322,7 +322,7 @@ fn verdict_at(alloc: Global, value: &Value) -> Result<Verdict, ReadError>
     verdict_of(alloc, value, kind)
 }
 
-/// Whether the version is 1.
+/// Returns whether the version is 1.
 fn has_version(value: &Value) -> bool
     ensures { result ≡ is_version (read_at number_read (codes "version") (view value.now)) }
 {
@@ -389,11 +389,11 @@ fn value_of(alloc: Global, bytes: &[u8]) -> Result<Value, ReadError>
     }
 }
 
-/// Reads a certificate from its JSON form.
+/// Returns the certificate that the bytes describe, in any layout of its JSON form.
 ///
 /// # Errors
-/// [`ReadError::Refused`] if the bytes don't have the form of a certificate; [`ReadError::OutOfMemory`] if there is not
-/// enough memory.
+/// [`ReadError::Refused`] if there are more than [`MOST_CERTIFICATE_BYTES`] bytes, they aren't UTF-8 or JSON, or the JSON
+/// value doesn't have the form of a certificate; [`ReadError::OutOfMemory`] if there is not enough memory.
 pub fn read(alloc: Global, bytes: &Bytes) -> Result<Certificate, ReadError>
     ensures certificate { IfOk result (IsForm bytes.now) }
     ensures refused { result ≡ Err ReadError.Refused → (c : Certificate) → ¬ IsForm bytes.now c }

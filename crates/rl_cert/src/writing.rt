@@ -3,7 +3,7 @@
 ghost use Rattle.std.specs.Prelude.{◌≡◌, codes, false, map, IfOk, OnOk};
 ghost use Rattle.serde_json.specs.Data.{Data, put, no_members, object, string};
 ghost use Rattle.serde_json.specs.View.{members_view, view};
-ghost use Rattle.rl_cert.specs.Form.{row_data, rows_data, anchor_row, double_row, triple_row, common_members, form_members, form_text, IsTold};
+ghost use Rattle.rl_cert.specs.Form.{row_data, rows_data, anchor_row, double_row, triple_row, common_members, form_members, form_text, IsDecided};
 
 use crate::certificate::{Anchor, Certificate};
 use rl_json::line_of;
@@ -94,7 +94,7 @@ fn put_made(
     Ok(())
 }
 
-/// Adds the members that every certificate has, except its kind.
+/// Adds the members that every certificate has, except its kind and its degree.
 fn put_common(
     members: &mut Members,
     alloc: Global,
@@ -129,7 +129,7 @@ fn put_kind(members: &mut Members, alloc: Global, kind: &str) -> Result<(), OutO
 
 /// Adds the members of a certificate.
 fn put_form(members: &mut Members, alloc: Global, c: &Certificate) -> Result<(), OutOfMemory>
-    requires { IsTold c.now.verdict }
+    requires { IsDecided c.now.verdict }
     ensures { OnOk result (members_view members.old.entries ≡ no_members → members_view members.new.entries ≡ form_members c.now c.now.verdict) }
 {
     match &c.verdict {
@@ -148,7 +148,7 @@ fn put_form(members: &mut Members, alloc: Global, c: &Certificate) -> Result<(),
 
 /// Converts a certificate into a JSON object.
 fn object_of(alloc: Global, c: &Certificate) -> Result<Value, OutOfMemory>
-    requires { IsTold c.now.verdict }
+    requires { IsDecided c.now.verdict }
     ensures { IfOk result (λ v. view v ≡ object (form_members c.now c.now.verdict)) }
 {
     let mut members = Map::new(alloc);
@@ -161,12 +161,14 @@ fn object_of(alloc: Global, c: &Certificate) -> Result<Value, OutOfMemory>
     }
 }
 
-/// Writes a certificate as one line of JSON.
+/// Returns a certificate as one line of compact JSON, with a line feed at the end. Its verdict must not be undecided. The line
+/// may be longer than [`MOST_CERTIFICATE_BYTES`](crate::MOST_CERTIFICATE_BYTES), in which case [`read`](crate::read) refuses
+/// it.
 ///
 /// # Errors
 /// [`OutOfMemory`] if there is not enough memory.
 pub fn write(alloc: Global, c: &Certificate) -> Result<Bytes, OutOfMemory>
-    requires { IsTold c.now.verdict }
+    requires { IsDecided c.now.verdict }
     ensures { IfOk result (λ bytes. bytes ≡ form_text c.now) }
 {
     let value = object_of(alloc, c)?;

@@ -10,7 +10,7 @@ use Rattle.rl_syntax.specs.Cost.{matched}
 use Rattle.rl_prio.proofs.MatchLemmas.{matched_to_end}
 use Rattle.rl_equiv.specs.declared.compared.Compared.{Compared}
 use Rattle.rl_compare.specs.Matched.{matched_tree}
-use Rattle.rl_compare.specs.Told.{IsOfRegion, AreTold}
+use Rattle.rl_compare.specs.Comparison.{IsOfRegion, IsTrueComparison}
 use Rattle.rl_compare.proofs.MatchedLaws.{matched-spans}
 
 -- The matched tree matches a text to its end exactly if the tree with its ending matches the text.
@@ -31,7 +31,7 @@ region-same u f g more text same r = record {
 }
 
 -- What the texts say about two matched trees, they say about the patterns.
-pub patterns-told : (u : Universe) (s t : Tree) (e f : Ending) (c : Compared) → AreTold u (matched (matched_tree u s e) AtEnd) (matched (matched_tree u t f) AtEnd) c → AreTold u (matched s e) (matched t f) c
+pub patterns-told : (u : Universe) (s t : Tree) (e f : Ending) (c : Compared) → IsTrueComparison u (matched (matched_tree u s e) AtEnd) (matched (matched_tree u t f) AtEnd) c → IsTrueComparison u (matched s e) (matched t f) c
 patterns-told u s t e f c told =
     let by : (g : Bool → Bool → Bool) (w : List ℕ) → IsText u w → g (matched (matched_tree u s e) AtEnd w) (matched (matched_tree u t f) AtEnd w) ≡ g (matched s e w) (matched t f w) =
     λ g w text. ap₂ g (same-matched u s e w text) (same-matched u t f w text) in

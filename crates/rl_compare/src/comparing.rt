@@ -1,4 +1,7 @@
-//! Compares what two patterns match.
+//! Compares what two patterns match. The matched tree of a pattern is a tree that spans a whole text if and only if the
+//! pattern matches the text in its mode. A set pair is two sets of states, one of each of two automata, to which the same word
+//! leads; the letters of the word are those of both trees. It shows a difference if the end letter, which comes after the last
+//! letter, leads exactly one of its sets to the accepting state.
 
 ghost use Rattle.std.specs.Prelude.{◌≡◌, ◌≤◌, IfOk, IfErr, OnOk};
 ghost use Rattle.rl_syntax.specs.Tree.{tree_of, IsOver};
@@ -7,7 +10,7 @@ ghost use Rattle.rl_equiv.specs.Limits.{AreWithin};
 ghost use Rattle.rl_equiv.specs.Regions.{AreRegions};
 ghost use Rattle.rl_compare.specs.Matched.{matched_tree};
 ghost use Rattle.rl_compare.specs.Exceeded.{IsCompareExceeded};
-ghost use Rattle.rl_compare.specs.Told.{AreTold};
+ghost use Rattle.rl_compare.specs.Comparison.{IsTrueComparison};
 ghost use Rattle.rl_syntax.specs.declared.limits.TheConstants.{MOST_SET_PAIRS};
 
 use crate::error::CompareError;
@@ -17,7 +20,7 @@ use rl_ranges::{CodeSet, Universe};
 use rl_syntax::{Ending, Lowered, Re};
 use std::alloc::Global;
 
-/// The tree of a pattern in a mode, followed by any codes if a match may end anywhere.
+/// Returns the matched tree of a lowered pattern: its tree, followed by any codes of the universe if a match may end anywhere.
 fn matched_re(alloc: Global, lowered: Lowered, u: Universe) -> Result<Re, OutOfMemory>
     ensures { IfOk result (λ re. tree_of re ≡ matched_tree u (tree_of lowered.tree) lowered.ending) }
 {
@@ -31,12 +34,15 @@ fn matched_re(alloc: Global, lowered: Lowered, u: Universe) -> Result<Re, OutOfM
     }
 }
 
-/// Compares what two patterns match. It looks at the first `limit` set pairs of their matched trees, and returns a text
-/// for each region that one of them is in, and whether more are reached.
+/// Compares what two lowered patterns match, each with its own ending, by the first `limit` set pairs of their matched trees
+/// in breadth-first order. Returns a text that only the first pattern matches, one that only the second matches and one that
+/// both match, and whether more than `limit` set pairs are reached. A text is `None` if none of the first `limit` set pairs
+/// gives one; if no more set pairs are reached, no such text exists. `limit` must be from 1 to 20,000, and the sets of both
+/// patterns must have only codes of the universe `u`.
 ///
 /// # Errors
-/// [`CompareError::Size`], [`CompareError::Letters`] or [`CompareError::Moves`] for the first limit that the matched
-/// trees exceed; [`CompareError::OutOfMemory`] if there was no memory.
+/// [`CompareError::Size`], [`CompareError::Letters`] or [`CompareError::Moves`] for the first limit, in this order, that the
+/// matched trees exceed; [`CompareError::OutOfMemory`] if there is not enough memory.
 pub fn compare(
     alloc: Global,
     a: Lowered,
@@ -51,7 +57,7 @@ pub fn compare(
     ensures within { OnOk result (AreWithin u (matched_tree u (tree_of a.tree) a.ending) (matched_tree u (tree_of b.tree) b.ending)) }
     ensures exceeded { IfErr result (IsCompareExceeded u (matched_tree u (tree_of a.tree) a.ending) (matched_tree u (tree_of b.tree) b.ending)) }
     ensures regions { IfOk result (AreRegions u (matched_tree u (tree_of a.tree) a.ending) (matched_tree u (tree_of b.tree) b.ending) limit) }
-    ensures told { IfOk result (AreTold u (matched (tree_of a.tree) a.ending) (matched (tree_of b.tree) b.ending)) }
+    ensures told { IfOk result (IsTrueComparison u (matched (tree_of a.tree) a.ending) (matched (tree_of b.tree) b.ending)) }
 {
     let first = matched_re(alloc, a, u)?;
     let second = matched_re(alloc, b, u)?;

@@ -9,7 +9,8 @@ ghost use Rattle.rl_syntax.specs.Cost.{matched};
 ghost use Rattle.rl_equiv.specs.Languages.{IsIn};
 ghost use Rattle.rl_compare.specs.Matched.{matched_tree};
 
-/// A matched tree spans a text exactly if the tree matches the text with its ending.
+/// The matched tree of a tree and an ending spans a whole text of the universe if and only if the tree matches the text with
+/// the ending.
 pub fn matched_trees_span_matches()
     ensures { (u : Universe) (t : Tree) (ending : Ending) (w : List ℕ) → IsText u w → IsIn (matched_tree u t ending) w ↔ IsTrue (matched t ending w) }
 {}

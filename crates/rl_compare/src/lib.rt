@@ -20,7 +20,7 @@
 //! // first: the empty text; second: None; both: `a`; more: false
 //! ```
 //!
-//! Read `specs/Matched.antt` first, then `specs/Told.antt` and `specs/Regions.antt` of `rl_equiv`.
+//! Read `specs/Matched.antt` first, then `specs/Comparison.antt` and `specs/Regions.antt` of `rl_equiv`.
 #![tactic(auto)]
 
 mod comparing;

@@ -9,7 +9,6 @@ pub mod FallingLaws
 pub mod PairLaws
 pub mod EnteredLaws
 pub mod FallingPairLaws
-pub mod KernelLaws
 pub mod GroupLaws
 pub mod TableLaws
 pub mod ReachLaws

@@ -3,7 +3,7 @@ use Rattle.std.proofs.Common.{◌≡◌, ◌≢◌, ℕ, ◌+◌, ◌*◌, ◌<�
 use Rattle.std.proofs.lemmas.Bool.{cases_eq, cases_lt}
 use Rattle.std.proofs.lemmas.List.{length_push, get_or_push, get_or_append_left}
 use Rattle.rl_graph.specs.Parts.{PartTable, number_of}
-use Rattle.rl_degree.specs.internal.Pairs.{is_wanted, Lists, list_of, row_of, HasOwnList, IsPut, IsBarePlaced, IsHeld, IsPlacedUpTo}
+use Rattle.rl_degree.specs.internal.Pairs.{is_wanted, Lists, list_of, row_of, HasOwnList, IsPut, IsBarePlaced, IsListed, IsPlacedUpTo}
 
 -- Nothing is placed yet.
 pub placed-bare : (c : List ℕ) (parts : PartTable) (n : ℕ) (p : Lists) → IsBarePlaced (n * n) p → IsPlacedUpTo c parts n 0 p
@@ -66,7 +66,7 @@ row-stays p new part x k i put lt = by (cases_eq k part)
         ap (λ (r : List ℕ). get_or r i 0) (ap (row_of new) e ∙ put.here)
         ∙ (get_or_append_left (row_of p part) (x ∷ []) 0 i small ∙ ap (λ z. get_or (row_of p z) i 0) (sym e))
 
-held-stays : (parts : PartTable) (p new : Lists) (part x y : ℕ) → IsPut part x p new → y ≢ x → IsHeld parts p y → IsHeld parts new y
+held-stays : (parts : PartTable) (p new : Lists) (part x y : ℕ) → IsPut part x p new → y ≢ x → IsListed parts p y → IsListed parts new y
 held-stays parts p new part x y put ne held =
     let e : get_or new.places y 0 ≡ get_or p.places y 0 = ap (λ z. get_or z y 0) put.places ∙ get_or-set_other p.places x y (length (row_of p part)) 0 ne in
     record {
@@ -74,7 +74,7 @@ held-stays parts p new part x y put ne held =
       here = ap (λ z. get_or (row_of new (number_of parts y)) z 0) e ∙ (row-stays p new part x (number_of parts y) (get_or p.places y 0) put held.within ∙ held.here);
     }
 
-held-new : (parts : PartTable) (p new : Lists) (x : ℕ) → IsPut (number_of parts x) x p new → x < length p.places → IsHeld parts new x
+held-new : (parts : PartTable) (p new : Lists) (x : ℕ) → IsPut (number_of parts x) x p new → x < length p.places → IsListed parts new x
 held-new parts p new x put k =
     let part = number_of parts x in
     let e : get_or new.places x 0 ≡ length (row_of p part) = ap (λ z. get_or z x 0) put.places ∙ get_or-set_same p.places x (length (row_of p part)) 0 k in
@@ -97,9 +97,9 @@ placed-more c parts n x p new lt w put o =
       short = λ k. omega (arith, o.short k, rows-longer p new part x k put);
     }
   where
-    by : (y : ℕ) → y < x + 1 → is_wanted c parts n y ≡ true → (y ≡ x) ⊎ (y ≢ x) → IsHeld parts new y
+    by : (y : ℕ) → y < x + 1 → is_wanted c parts n y ≡ true → (y ≡ x) ⊎ (y ≢ x) → IsListed parts new y
     by y small wy (inr ne) = held-stays parts p new (number_of parts x) x y put ne (o.held y (omega arith) wy)
-    by y small wy (inl e) = subst (IsHeld parts new) (sym e) (held-new parts p new x put (omega (arith, o.size)))
+    by y small wy (inl e) = subst (IsListed parts new) (sym e) (held-new parts p new x put (omega (arith, o.size)))
 
 pub placed-passed : (c : List ℕ) (parts : PartTable) (n x : ℕ) (p : Lists) → is_wanted c parts n x ≡ false → IsPlacedUpTo c parts n x p → IsPlacedUpTo c parts n (x + 1) p
 placed-passed c parts n x p w o = record {
@@ -113,7 +113,7 @@ placed-passed c parts n x p w o = record {
   short = λ k. omega (arith, o.short k);
 }
   where
-    by : (y : ℕ) → y < x + 1 → is_wanted c parts n y ≡ true → (y ≡ x) ⊎ (y ≢ x) → IsHeld parts p y
+    by : (y : ℕ) → y < x + 1 → is_wanted c parts n y ≡ true → (y ≡ x) ⊎ (y ≢ x) → IsListed parts p y
     by y small wy (inr ne) = o.held y (omega arith) wy
     by y small wy (inl e) = let f : true ≡ false = sym wy ∙ (ap (is_wanted c parts n) e ∙ w) in cc
 

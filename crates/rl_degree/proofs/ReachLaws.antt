@@ -10,7 +10,7 @@ use Rattle.rl_graph.specs.Parts.{PartTable, IsParts, number_of}
 use Rattle.rl_graph.proofs.Sums.{total-there}
 use Rattle.rl_graph.proofs.PathLaws.{nil-same, Reaches-move}
 use Rattle.rl_graph.proofs.MarkedLaws.{move-in}
-use Rattle.rl_degree.specs.internal.Reached.{reached_from, leads_to, reaches, IsReachedRow, AreReachedUpTo, AreReached, IsHopelessUpTo, IsHopeless, IsFilled, AreFilled, AreHopeless}
+use Rattle.rl_degree.specs.internal.Reached.{reached_from, leads_to, reaches, IsReachedRow, AreReachedUpTo, AreReached, IsHopelessUpTo, IsHopeless, IsFilled, AreFilled}
 
 -- The laws below are about the union of two rows.
 
@@ -144,32 +144,6 @@ filled-set n p rows hopeless c row lt are is = record {
         let e = get_or-set_other hopeless c k row [] other in
         subst (IsHopeless n p rows k) (sym e) (are.right k hk (omega (arith, some, ap length e)))
 
-pub filled-here : (n : ℕ) (hopeless : List (List Bool)) (c : ℕ) (row : List Bool) → length hopeless ≡ n → c < n → length row ≡ n → IsFilled (set hopeless c row) c
-filled-here n hopeless c row size lt wide = omega (arith, lt, wide, ap length (get_or-set_same hopeless c row [] (omega (arith, lt, size))))
-
-pub filled-kept : (n : ℕ) (hopeless : List (List Bool)) (c : ℕ) (row : List Bool) → length hopeless ≡ n → c < n → length row ≡ n → (k : ℕ) → IsFilled hopeless k → IsFilled (set hopeless c row) k
-filled-kept n hopeless c row size lt wide k some = by (cases_eq k c)
-  where
-    by : (k ≡ c) ⊎ (k ≡ c → ⊥) → IsFilled (set hopeless c row) k
-    by (inl same) = rw same (filled-here n hopeless c row size lt wide)
-    by (inr other) = omega (arith, some, ap length (get_or-set_other hopeless c k row [] other))
-
 -- The rows of the components before `end` in a list are there.
 abbrev pub AreThere : List ℕ → ℕ → List (List Bool) → Type 0
 AreThere listed end hopeless = (i : ℕ) → i < end → IsFilled hopeless (get_or listed i 0)
-
-pub there-more : (listed : List ℕ) (end c : ℕ) (old new : List (List Bool)) → c ≡ get_or listed end 0 → AreThere listed end old → IsFilled new c → ((k : ℕ) → IsFilled old k → IsFilled new k) → AreThere listed (end + 1) new
-there-more listed end c old new e before here kept i lt = by (cases_lt i end)
-  where
-    by : (i < end) ⊎ (end ≤ i) → IsFilled new (get_or listed i 0)
-    by (inl a) = kept (get_or listed i 0) (before i a)
-    by (inr a) =
-        let same : i ≡ end = omega (arith, lt, a) in
-        subst (IsFilled new) (e ∙ ap (λ z. get_or listed z 0) (sym same)) here
-
-pub hopeless-all : (n : ℕ) (p : PartTable) (rows hopeless : List (List Bool)) (listed : List ℕ) (end : ℕ) → length listed ≤ end → ((i : ℕ) → i < length listed → get_or listed i 0 < n) → AreFilled n p rows hopeless → AreThere listed end hopeless
-    → AreHopeless n p rows listed hopeless
-hopeless-all n p rows hopeless listed end long inside are there = record {
-  size = are.size;
-  right = λ i lt. are.right (get_or listed i 0) (inside i lt) (there i (omega (arith, lt, long)));
-}

@@ -14,7 +14,7 @@ use Rattle.rl_graph.proofs.PathLaws.{nil-same, paths-nil, through_one, positive,
 use Rattle.rl_kernel.specs.Members.{is_member}
 use Rattle.rl_degree.specs.internal.Moves.{cell, with_cell, IsMoveTable, IsUsed, AreMoveTables}
 use Rattle.rl_degree.specs.internal.Pairs.{IsTable}
-use Rattle.rl_degree.specs.internal.Rows.{Field, field_of, Stand, has_middle, row_with, start_stand, number_of_new, words_from, word_at, IsRooted, reached, IsReached, behind, IsFound, Waits, AreMovesSeen, IsSearching, work_of, IsFurther, IsImage, IsMet, outer_of, outer_moves, IsFollowedOn, IsFollowedUpTo}
+use Rattle.rl_degree.specs.internal.Rows.{Field, field_of, SearchState, has_middle, row_with, start_state, number_of_new, words_from, word_at, IsRooted, reached, IsReached, behind, IsFound, Waits, AreMovesSeen, IsSearching, work_of, IsFurther, IsImage, IsMet, outer_of, outer_moves, IsFollowedOn, IsFollowedUpTo}
 use Rattle.rl_degree.specs.declared.pairs.PairTable.{PairTable}
 use Rattle.rl_degree.specs.declared.rows.Step.{Step}
 use Rattle.rl_degree.specs.declared.rows.Found.{Found}
@@ -115,12 +115,12 @@ one-more next q m t l w h k =
     omega (arith, through_one next q m t w (l ∷ []), positive (paths next q m w) (paths next m t (l ∷ [])) h (move-path next m t t l [] k (omega (arith, paths-nil next t))))
 
 -- A step adds the states that are new beside a member that the pair of what was found moves to.
-module _ (d : Field) (f : Found) (l y : ℕ) (image : List Bool) (old : Stand)
+module _ (d : Field) (f : Found) (l y : ℕ) (image : List Bool) (old : SearchState)
     (s : IsSearching d (behind f old)) (img : IsImage d f l image) (move : Has y (d.pairs (get_or d.members f.place 0) l)) (member : is_member d.members d.places y ≡ true) where
   abbrev p : ℕ
   p = get_or d.places y 0
 
-  abbrev later : Stand
+  abbrev later : SearchState
   later = reached f.step l p image old
 
   abbrev added : Found
@@ -289,10 +289,10 @@ module _ (d : Field) (f : Found) (l y : ℕ) (image : List Bool) (old : Stand)
   pub seen-new : (k : ℕ) → get_or image k false ≡ true → cell (reached f.step l (get_or d.places y 0) image old).seen (get_or d.places y 0) k ≡ true
   seen-new k h = cell-or_here old.seen p k image p-in p-wide h
 
-pub further-self : (d : Field) (f : Found) (s : Stand) → IsSearching d (behind f s) → IsFurther d f s s
+pub further-self : (d : Field) (f : Found) (s : SearchState) → IsSearching d (behind f s) → IsFurther d f s s
 further-self d f s h = record { keeps = refl; place = refl; from = refl; to = refl; searching = h; grows = λ i m on. on; work = omega arith }
 
-pub further-more : (d : Field) (f : Found) (a b c : Stand) → IsFurther d f a b → IsFurther d f b c → IsFurther d f a c
+pub further-more : (d : Field) (f : Found) (a b c : SearchState) → IsFurther d f a b → IsFurther d f b c → IsFurther d f a c
 further-more d f a b c x y = record {
   keeps = y.keeps ∙ x.keeps;
   place = y.place ∙ x.place;
@@ -304,24 +304,20 @@ further-more d f a b c x y = record {
 }
 
 -- If a pair is met, the search goes further, and the middle states were seen beside it.
-pub reach-further : (d : Field) (f : Found) (l y : ℕ) (image : List Bool) (old new : Stand) → IsSearching d (behind f old) → IsImage d f l image
+pub reach-further : (d : Field) (f : Found) (l y : ℕ) (image : List Bool) (old new : SearchState) → IsSearching d (behind f old) → IsImage d f l image
     → Has y (d.pairs (get_or d.members f.place 0) l) → is_member d.members d.places y ≡ true → IsReached f.step l (get_or d.places y 0) image old new
     → IsFurther d f old new × ((k : ℕ) → get_or image k false ≡ true → cell new.seen (get_or d.places y 0) k ≡ true)
 reach-further d f l y image old fresh s img move member (inl a) =
-    subst (λ (z : Stand). IsFurther d f old z × ((k : ℕ) → get_or image k false ≡ true → cell z.seen (get_or d.places y 0) k ≡ true)) (sym a.1) (further-self d f old s, a.0)
+    subst (λ (z : SearchState). IsFurther d f old z × ((k : ℕ) → get_or image k false ≡ true → cell z.seen (get_or d.places y 0) k ≡ true)) (sym a.1) (further-self d f old s, a.0)
 reach-further d f l y image old fresh s img move member (inr a) =
-    subst (λ (z : Stand). IsFurther d f old z × ((k : ℕ) → get_or image k false ≡ true → cell z.seen (get_or d.places y 0) k ≡ true)) (sym a.1)
+    subst (λ (z : SearchState). IsFurther d f old z × ((k : ℕ) → get_or image k false ≡ true → cell z.seen (get_or d.places y 0) k ≡ true)) (sym a.1)
     (further-new d f l y image old s img move member a.0, seen-new d f l y image old s img move member)
 
 -- The laws below are about the moves of the pair on a letter, one after the other.
 
 -- What was met stays met.
-pub met-stays : (d : Field) (f : Found) (image : List Bool) (y : ℕ) (old new : Stand) → IsFurther d f old new → IsMet d image old y → IsMet d image new y
+pub met-stays : (d : Field) (f : Found) (image : List Bool) (y : ℕ) (old new : SearchState) → IsFurther d f old new → IsMet d image old y → IsMet d image new y
 met-stays d f image y old new further met member k on = further.grows (get_or d.places y 0) k (met member k on)
-
--- A pair that is no member is met.
-pub met-passed : (d : Field) (image : List Bool) (y : ℕ) (s : Stand) → is_member d.members d.places y ≡ false → IsMet d image s y
-met-passed d image y s other member k on = absurd (both_ways (is_member d.members d.places y) other member)
 
 -- If something stays so for the first numbers and holds for the next one, it holds for one more.
 pub first-more : (before after : ℕ → Type 0) (end : ℕ) → ((j : ℕ) → before j → after j) → after end → ((j : ℕ) → j < end → before j) → (j : ℕ) → j < end + 1 → after j
@@ -368,11 +364,11 @@ outer-only next n p q z l m firsts seconds ep eq ef es h =
     )
 
 -- If all of them were met, what was found was followed.
-pub met-all : (d : Field) (f : Found) (l : ℕ) (image : List Bool) (s : Stand) → IsImage d f l image → ((y : ℕ) → Has y (outer_moves d f l) → IsMet d image s y) → IsFollowedOn d f l s
+pub met-all : (d : Field) (f : Found) (l : ℕ) (image : List Bool) (s : SearchState) → IsImage d f l image → ((y : ℕ) → Has y (outer_moves d f l) → IsMet d image s y) → IsFollowedOn d f l s
 met-all d f l image s img all m fresh y k hy member hk = all y hy member k ((img.moves k).1 (m, fresh, hk))
 
 -- If what was found was followed on one more letter, it was followed up to the next one.
-pub followed-more : (d : Field) (f : Found) (end : ℕ) (old new : Stand) → IsFurther d f old new → IsFollowedOn d f end new → IsFollowedUpTo d f end old → IsFollowedUpTo d f (end + 1) new
+pub followed-more : (d : Field) (f : Found) (end : ℕ) (old new : SearchState) → IsFurther d f old new → IsFollowedOn d f end new → IsFollowedUpTo d f end old → IsFollowedUpTo d f (end + 1) new
 followed-more d f end old new further here before l lt m fresh y k hy member hk = by (cases_lt l end)
   where
     by : (l < end) ⊎ (end ≤ l) → cell new.seen (get_or d.places y 0) k ≡ true
@@ -393,13 +389,13 @@ image-of g t part l f table row on e = record {
 }
 
 -- If something was found, there are tables.
-pub tables-there : (g : Graph) (t : PairTable) (part : ℕ) (f : Found) (s : Stand) → IsTable g t → IsSearching (field_of g t part) (behind f s) → AreMoveTables g t.inner t.moves.items
+pub tables-there : (g : Graph) (t : PairTable) (part : ℕ) (f : Found) (s : SearchState) → IsTable g t → IsSearching (field_of g t part) (behind f s) → AreMoveTables g t.inner t.moves.items
 tables-there g t part f s is h =
     let here = (h.found f (inl refl)).place_in in
     is.moves (outer_of (field_of g t part) f) (is.placed.pairs part f.place here) (is.placed.are_wanted part f.place here)
 
 -- A letter that its pair moves on is used.
-pub used-there : (g : Graph) (t : PairTable) (part l p : ℕ) (f : Found) (s : Stand) (firsts : List ℕ) → IsTable g t → IsSearching (field_of g t part) (behind f s) → p ≡ outer_of (field_of g t part) f / t.inner.states
+pub used-there : (g : Graph) (t : PairTable) (part l p : ℕ) (f : Found) (s : SearchState) (firsts : List ℕ) → IsTable g t → IsSearching (field_of g t part) (behind f s) → p ≡ outer_of (field_of g t part) f / t.inner.states
     → firsts ≡ edges_of t.inner p l → eqb (length firsts) 0 ≡ false → IsUsed t.inner l
 used-there g t part l p f s firsts is h ep ef some =
     let here = is.placed.pairs part f.place (h.found f (inl refl)).place_in in
@@ -408,14 +404,14 @@ used-there g t part l p f s firsts is h ep ef some =
     (p, get_or firsts 0 0, omega (arith, small, ep), subst (λ (r : List ℕ). Has (get_or firsts 0 0) r) ef (Has-get_or firsts 0 0 (omega (arith, ne))))
 
 -- The table of such a letter is right.
-pub table-at : (g : Graph) (t : PairTable) (part l : ℕ) (f : Found) (s : Stand) (table : List (List Bool)) → IsTable g t → IsSearching (field_of g t part) (behind f s) → l < g.letters → IsUsed t.inner l → table ≡ get_or t.moves.items l table → IsMoveTable g l table
+pub table-at : (g : Graph) (t : PairTable) (part l : ℕ) (f : Found) (s : SearchState) (table : List (List Bool)) → IsTable g t → IsSearching (field_of g t part) (behind f s) → l < g.letters → IsUsed t.inner l → table ≡ get_or t.moves.items l table → IsMoveTable g l table
 table-at g t part l f s table is h small used e =
     let are = tables-there g t part f s is h in
     subst (IsMoveTable g l) (sym (get_or_read t.moves.items l table (omega (arith, are.size)) e [])) (are.right l small used)
 
 -- What was found has been followed on all letters.
 
-pub settle : (d : Field) (f : Found) (s : Stand) (letters : ℕ) → ((x l : ℕ) → letters ≤ l → d.pairs x l ≡ []) → IsSearching d (behind f s) → IsFollowedUpTo d f letters s
+pub settle : (d : Field) (f : Found) (s : SearchState) (letters : ℕ) → ((x l : ℕ) → letters ≤ l → d.pairs x l ≡ []) → IsSearching d (behind f s) → IsFollowedUpTo d f letters s
     → (f.place ≡ s.place → has_middle f s.to ≡ true → ⊥) → IsSearching d s
 settle d f s letters none h all other = record {
   high = h.high;
@@ -450,7 +446,7 @@ settle d f s letters none h all other = record {
 -- The laws below are about the start of a search.
 
 pub searching-start : (d : Field) (keeps : Bool) (hopeless : List Bool) (pairs place from to : ℕ) → pairs ≡ length d.members → place < pairs → from < d.states → length hopeless ≡ d.states
-    → ((m l k : ℕ) → get_or hopeless m false ≡ true → Has k (d.next m l) → get_or hopeless k false ≡ true) → (get_or hopeless to false ≡ true → ⊥) → IsSearching d (start_stand keeps hopeless pairs place from to)
+    → ((m l k : ℕ) → get_or hopeless m false ≡ true → Has k (d.next m l) → get_or hopeless k false ≡ true) → (get_or hopeless to false ≡ true → ⊥) → IsSearching d (start_state keeps hopeless pairs place from to)
 searching-start d keeps hopeless pairs place from to e hp hf wide-row closed lacks = record {
   high = length-set (replicate pairs hopeless) place (set (get_or (replicate pairs hopeless) place []) from true) ∙ (length-replicate pairs hopeless ∙ e);
   wide = λ i lt. wide i (omega (arith, e)) (cases_eq i place);
@@ -487,8 +483,8 @@ searching-start d keeps hopeless pairs place from to e hp hf wide-row closed lac
     only-from m (inr a) on =
         absurd (both_ways (get_or (row_with (length hopeless) from) m false) (get_or-set_other (replicate (length hopeless) false) from m true false a ∙ get_or-replicate_false (length hopeless) m) on)
 
-    found : (f : Found) → Has f (record { step = 0; place = place; middle = row_with (length hopeless) from } ∷ []) → IsFound d (start_stand keeps hopeless pairs place from to) f
-    found f (inl here) = subst (IsFound d (start_stand keeps hopeless pairs place from to)) (sym here) (record {
+    found : (f : Found) → Has f (record { step = 0; place = place; middle = row_with (length hopeless) from } ∷ []) → IsFound d (start_state keeps hopeless pairs place from to) f
+    found f (inl here) = subst (IsFound d (start_state keeps hopeless pairs place from to)) (sym here) (record {
       place_in = omega (arith, e);
       step_in = omega arith;
       wide = length-set (replicate (length hopeless) false) from true ∙ (length-replicate (length hopeless) false ∙ wide-row);
@@ -499,7 +495,7 @@ searching-start d keeps hopeless pairs place from to e hp hf wide-row closed lac
     })
     found f (inr none) = absurd none
 
-    waits : (i m : ℕ) → i ≡ place → m ≡ from → Waits (start_stand keeps hopeless pairs place from to) i m
+    waits : (i m : ℕ) → i ≡ place → m ≡ from → Waits (start_state keeps hopeless pairs place from to) i m
     waits i m a b = (record { step = 0; place = place; middle = row_with (length hopeless) from }, inl refl, sym a, rw b fresh-first)
 
     -- A cell that is set in the rows before the start is set in the row `hopeless`.
@@ -509,20 +505,20 @@ searching-start d keeps hopeless pairs place from to e hp hf wide-row closed lac
         ap (λ (r : List Bool). get_or r m false) (sym (row-there i lt)) ∙ on
 
     settled : (i m : ℕ) → (cell (replicate pairs hopeless) i m ≡ true) ⊎ ((i ≡ place) × (m ≡ from))
-        → Waits (start_stand keeps hopeless pairs place from to) i m ⊎ ((l : ℕ) → AreMovesSeen d (start_stand keeps hopeless pairs place from to) l i m)
+        → Waits (start_state keeps hopeless pairs place from to) i m ⊎ ((l : ℕ) → AreMovesSeen d (start_state keeps hopeless pairs place from to) l i m)
     settled i m (inr a) = inl (waits i m a.0 a.1)
     settled i m (inl a) = inr (λ l y k hy member hk.
         let lt : get_or d.places y 0 < pairs = omega (arith, e, (member-there d.members d.places y member).0) in
         cell-one_stays (replicate pairs hopeless) place from (get_or d.places y 0) k hr hw (ap (λ (r : List Bool). get_or r k false) (row-there (get_or d.places y 0) lt) ∙ closed m l k (in-row i m a) hk))
 
-    goal : (cell (replicate pairs hopeless) place to ≡ true) ⊎ ((place ≡ place) × (to ≡ from)) → Waits (start_stand keeps hopeless pairs place from to) place to
+    goal : (cell (replicate pairs hopeless) place to ≡ true) ⊎ ((place ≡ place) × (to ≡ from)) → Waits (start_state keeps hopeless pairs place from to) place to
     goal (inl a) = absurd (lacks (in-row place to a))
     goal (inr a) = waits place to refl a.1
 
 -- The laws below are about the end of a search.
 
 -- If nothing is left to follow, whatever is reached was seen.
-reached-seen : (d : Field) (s : Stand) → IsSearching d s → s.queue ≡ [] → (z q : ℕ) (w : List ℕ) (v m : ℕ)
+reached-seen : (d : Field) (s : SearchState) → IsSearching d s → s.queue ≡ [] → (z q : ℕ) (w : List ℕ) (v m : ℕ)
     → ((y : ℕ) → Reaches d.pairs v y → Reaches d.pairs y z → is_member d.members d.places y ≡ true)
     → cell s.seen (get_or d.places v 0) m ≡ true → 1 ≤ paths d.pairs v z w → 1 ≤ paths d.next m q w → cell s.seen (get_or d.places z 0) q ≡ true
 reached-seen d s h empty z q [] v m all on p r =
@@ -543,7 +539,7 @@ reached-seen d s h empty z q (l ∷ w) v m all on p r =
     step x k at member hx hk (inr passed) = passed l x k (subst (λ (a : ℕ). Has x (d.pairs a l)) (sym at) hx) member hk
 
 -- So what is looked for is not reached.
-pub never-reached : (d : Field) (s : Stand) → IsSearching d s → s.queue ≡ [] → (x : ℕ) (w : List ℕ) → get_or d.places x 0 ≡ s.place
+pub never-reached : (d : Field) (s : SearchState) → IsSearching d s → s.queue ≡ [] → (x : ℕ) (w : List ℕ) → get_or d.places x 0 ≡ s.place
     → ((y : ℕ) → Reaches d.pairs x y → Reaches d.pairs y x → is_member d.members d.places y ≡ true) → 1 ≤ paths d.pairs x x w → 1 ≤ paths d.next s.from s.to w → ⊥
 never-reached d s h empty x w at all p r =
     let on = reached-seen d s h empty x s.to w x s.from all (subst (λ (a : ℕ). cell s.seen a s.from ≡ true) (sym at) h.start) p r in

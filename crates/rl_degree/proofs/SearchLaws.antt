@@ -14,7 +14,7 @@ use Rattle.rl_kernel.specs.Members.{is_member, IsPlace}
 use Rattle.rl_kernel.specs.Seats.{seats_of, state_at}
 use Rattle.rl_degree.specs.internal.FallingPairs.{falls, falling_moves}
 use Rattle.rl_degree.specs.internal.Pairs.{is_wanted, lists_of, row_of, IsTable}
-use Rattle.rl_degree.specs.internal.Rows.{Stand, field_of, start_stand, has_middle, word_at, behind, IsSearching, IsFurther, IsFollowedUpTo}
+use Rattle.rl_degree.specs.internal.Rows.{SearchState, field_of, start_state, has_middle, word_at, behind, IsSearching, IsFurther, IsFollowedUpTo}
 use Rattle.rl_degree.specs.declared.rows.Found.{Found}
 use Rattle.rl_degree.specs.internal.Splits.{HasSplit, IsPairFor, IsMark, AreMarks}
 use Rattle.rl_degree.specs.declared.pairs.PairTable.{PairTable}
@@ -46,17 +46,17 @@ split-below next n p parts none r q y hr hq s = by (cases_lt (number_of p q) (nu
 -- The laws below are about tables.
 
 -- A search is for the split of two states, in the part of their pair.
-pub record IsFor (g : Graph) (t : PairTable) (x part : ℕ) (s : Stand) : Type 0 where
+pub record IsFor (g : Graph) (t : PairTable) (x part : ℕ) (s : SearchState) : Type 0 where
   pub pair : IsPairFor t s.from s.to x
   pub of_part : part ≡ number_of t.parts x
   pub place : s.place ≡ get_or (lists_of t.placed).places x 0
 
 -- While something is still to be followed, the search is for the same.
-pub for-behind : (g : Graph) (t : PairTable) (x part : ℕ) (s old : Stand) (f : Found) → old ≡ behind f s → IsFor g t x part old → IsFor g t x part s
+pub for-behind : (g : Graph) (t : PairTable) (x part : ℕ) (s old : SearchState) (f : Found) → old ≡ behind f s → IsFor g t x part old → IsFor g t x part s
 for-behind g t x part s old f e is = record {
-  pair = subst (λ (z : Stand). IsPairFor t z.from z.to x) e is.pair;
+  pair = subst (λ (z : SearchState). IsPairFor t z.from z.to x) e is.pair;
   of_part = is.of_part;
-  place = sym (ap (λ (z : Stand). z.place) e) ∙ is.place;
+  place = sym (ap (λ (z : SearchState). z.place) e) ∙ is.place;
 }
 
 module _ (g : Graph) (t : PairTable) (whole : IsWhole g) (table : IsTable g t) where
@@ -270,7 +270,7 @@ module _ (g : Graph) (t : PairTable) (whole : IsWhole g) (table : IsTable g t) w
         behind = sides.1;
       }
 
-  start-of : (x part : ℕ) (s : Stand) → IsFor g t x part s → IsStart x (row_of (lists_of t.placed) part) (lists_of t.placed).places
+  start-of : (x part : ℕ) (s : SearchState) → IsFor g t x part s → IsStart x (row_of (lists_of t.placed) part) (lists_of t.placed).places
   start-of x part s f =
       start-there x part (row_of (lists_of t.placed) part) (lists_of t.placed).places f.pair.within f.pair.wanted f.of_part refl refl
 
@@ -284,19 +284,19 @@ module _ (g : Graph) (t : PairTable) (whole : IsWhole g) (table : IsTable g t) w
       (table.hopeless.right i (omega (arith, at, table.kernel.seats.same_length)))
 
   -- The search begins right.
-  pub search-start : (keeps : Bool) (hopeless : List Bool) (x part pairs place r q : ℕ) (s : Stand) → r < g.states → q < g.states → IsHopeless g.states t.components t.reached.items (number_of t.components q) hopeless → IsPairFor t r q x → part ≡ number_of t.parts x
-      → place ≡ get_or (lists_of t.placed).places x 0 → pairs ≡ length (row_of (lists_of t.placed) part) → s ≡ start_stand keeps hopeless pairs place r q
+  pub search-start : (keeps : Bool) (hopeless : List Bool) (x part pairs place r q : ℕ) (s : SearchState) → r < g.states → q < g.states → IsHopeless g.states t.components t.reached.items (number_of t.components q) hopeless → IsPairFor t r q x → part ≡ number_of t.parts x
+      → place ≡ get_or (lists_of t.placed).places x 0 → pairs ≡ length (row_of (lists_of t.placed) part) → s ≡ start_state keeps hopeless pairs place r q
       → IsSearching (field_of g t part) s × IsFor g t x part s
   search-start keeps hopeless x part pairs place r q s hr hq lost pair of_part at long es =
-      let is : IsFor g t x part (start_stand keeps hopeless pairs place r q) = record { pair = pair; of_part = of_part; place = at } in
-      let start = start-of x part (start_stand keeps hopeless pairs place r q) is in (
+      let is : IsFor g t x part (start_state keeps hopeless pairs place r q) = record { pair = pair; of_part = of_part; place = at } in
+      let start = start-of x part (start_state keeps hopeless pairs place r q) is in (
         subst (IsSearching (field_of g t part)) (sym es) (searching-start (field_of g t part) keeps hopeless pairs place r q long (omega (arith, at, long, start.within)) hr lost.wide
             (hopeless-closed g t.components t.reached.items whole table.components table.reached q hopeless lost) (hopeless-lacks g t.components t.reached.items whole table.components table.reached q hopeless hq lost)),
         subst (IsFor g t x part) (sym es) is,
       )
 
   -- The search goes on right.
-  pub search-further : (x part : ℕ) (s new : Stand) (f : Found) → IsFor g t x part s → IsFurther (field_of g t part) f s new → IsFollowedUpTo (field_of g t part) f g.letters new
+  pub search-further : (x part : ℕ) (s new : SearchState) (f : Found) → IsFor g t x part s → IsFurther (field_of g t part) f s new → IsFollowedUpTo (field_of g t part) f g.letters new
       → (f.place ≡ s.place → has_middle f s.to ≡ true → ⊥) → IsSearching (field_of g t part) new × IsFor g t x part new
   search-further x part s new f is further all other = (
     settle (field_of g t part) f new g.letters (λ y l h. (bounded-pairs (edges_of t.inner) t.inner.states g.letters bounded).letters y l h) further.searching all
@@ -309,7 +309,7 @@ module _ (g : Graph) (t : PairTable) (whole : IsWhole g) (table : IsTable g t) w
   )
 
   -- A word to what is looked for is that of a split.
-  pub search-found : (x part : ℕ) (s : Stand) (f : Found) → IsFor g t x part s → (h : IsSearching (field_of g t part) (behind f s)) → f.place ≡ s.place → has_middle f s.to ≡ true
+  pub search-found : (x part : ℕ) (s : SearchState) (f : Found) → IsFor g t x part s → (h : IsSearching (field_of g t part) (behind f s)) → f.place ≡ s.place → has_middle f s.to ≡ true
       → IsSplit (edges_of g) s.from s.to (h.found f (inl refl)).word
   search-found x part s f is h at fresh =
       let d = h.found f (inl refl) in
@@ -324,13 +324,13 @@ module _ (g : Graph) (t : PairTable) (whole : IsWhole g) (table : IsTable g t) w
       (path-split x d.word is.pair.within is.pair.wanted pair over))
 
   -- If steps are kept, the word of its step is that word.
-  pub search-word : (x part : ℕ) (s : Stand) (f : Found) (word : List ℕ) → IsFor g t x part s → IsSearching (field_of g t part) (behind f s) → f.place ≡ s.place → has_middle f s.to ≡ true
+  pub search-word : (x part : ℕ) (s : SearchState) (f : Found) (word : List ℕ) → IsFor g t x part s → IsSearching (field_of g t part) (behind f s) → f.place ≡ s.place → has_middle f s.to ≡ true
       → s.keeps ≡ true → word ≡ word_at s.steps f.step → IsSplit (edges_of g) s.from s.to word
   search-word x part s f word is h at fresh keeps e =
       subst (IsSplit (edges_of g) s.from s.to) ((h.found f (inl refl)).kept keeps ∙ sym e) (search-found x part s f is h at fresh)
 
   -- If nothing is left to follow, there is no split.
-  pub search-none : HasNoTwin (edges_of g) → (x part : ℕ) (s : Stand) → IsFor g t x part s → IsSearching (field_of g t part) s → s.queue ≡ [] → HasSplit (edges_of g) s.from s.to → ⊥
+  pub search-none : HasNoTwin (edges_of g) → (x part : ℕ) (s : SearchState) → IsFor g t x part s → IsSearching (field_of g t part) s → s.queue ≡ [] → HasSplit (edges_of g) s.from s.to → ⊥
   search-none none x part s is h empty split =
       let start = start-of x part s is in
       let here : IsSplit (edges_of g) (first x) (second x) split.0 =

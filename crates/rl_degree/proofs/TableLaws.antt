@@ -1,9 +1,9 @@
 -- Tables of bits: one more bit, one more row, and the moves on a letter.
-use Rattle.std.proofs.Common.{◌∷◌, ◌++◌, ◌≡◌, ◌≢◌, ℕ, ◌+◌, ◌<◌, ◌≤◌, ◌⊎◌, inl, inr, Bool, true, false, List, [], length, get_or, set, replicate, sym, ◌∙◌, ap, subst, arith}
+use Rattle.std.proofs.Common.{◌∷◌, ◌++◌, ◌≡◌, ◌≢◌, ℕ, ◌+◌, ◌<◌, ◌≤◌, ◌⊎◌, inl, inr, Bool, true, false, List, [], length, get_or, set, sym, ◌∙◌, ap, subst, arith}
 use Rattle.std.proofs.lemmas.Bool.{cases_eq, cases_lt, or_cases, or_left, or_right, both_ways}
-use Rattle.std.proofs.lemmas.List.{get_or_append_left, get_or_push, get_or-set_same, get_or-set_other, get_or-replicate, length-set, length-replicate, get_or_past}
+use Rattle.std.proofs.lemmas.List.{get_or_append_left, get_or_push, get_or-set_same, get_or-set_other, length-set, get_or_past}
 use Rattle.rl_lanes.specs.Rows.{list_or}
-use Rattle.rl_lanes.proofs.RowLemmas.{get_or-list_or, get_or-replicate_false}
+use Rattle.rl_lanes.proofs.RowLemmas.{get_or-list_or}
 use Rattle.rl_lanes.proofs.ImageLemmas.{row_lengths-set}
 use Rattle.rl_graph.specs.Paths.{Has}
 use Rattle.rl_graph.specs.Graph.{Graph, edges_of, IsWhole}
@@ -44,12 +44,6 @@ cell-one_stays rows s t i k hs ht h = by (cases_eq i s) (cases_eq k t)
     by (inl e) (inr n) =
         rw e (ap (λ (r : List Bool). get_or r k false) (get_or-set_same rows s (set (get_or rows s []) t true) [] hs)
         ∙ (get_or-set_other (get_or rows s []) t k true false n ∙ rw e at h))
-
-pub cell-none : (n len i k : ℕ) → cell (replicate n (replicate len false)) i k ≡ true → ⊥
-cell-none n len i k h =
-    let lt : i < n = omega (arith, cell-within (replicate n (replicate len false)) i k h, length-replicate n (replicate len false)) in
-    both_ways (get_or (get_or (replicate n (replicate len false)) i []) k false)
-    (ap (λ (r : List Bool). get_or r k false) (get_or-replicate n i (replicate len false) [] lt) ∙ get_or-replicate_false len k) h
 
 -- One row is joined with another one.
 

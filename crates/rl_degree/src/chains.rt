@@ -1,4 +1,8 @@
-//! The longest chains of splits.
+//! Longest chains of splits. A twin is a state with two different paths to itself along one word. A split is two
+//! different states `r` and `q` with paths from `r` to `r`, from `r` to `q` and from `q` to `q` along one word. In a
+//! chain of splits from a state, the state reaches the first state of the first split, and the second state of each
+//! split reaches the first state of the next one. The rank of a state is the number of splits in a longest chain from
+//! it.
 
 ghost use Rattle.std.specs.Prelude.{◌≡◌, ℕ, ◌<◌, ◌≤◌, List, length, replicate, slice_index, All, IfOk, IfSome, IfNone, IsTrue};
 ghost use Rattle.rl_graph.specs.Graph.{edges_of};
@@ -18,8 +22,8 @@ use rl_graph::{Components, FoundPath, Multigraph, cycle_through};
 use rl_lists::{Items, OutOfMemory, Ranks, Word};
 use std::alloc::Global;
 
-/// A split: two different states and a word with paths from the first to itself, from the first to the second and from the
-/// second to itself.
+/// A split: two different states and a word along which paths lead from the first state to itself, from the first to
+/// the second and from the second to itself.
 #[derive(Drop)]
 pub struct Split {
     /// The first state.
@@ -30,10 +34,10 @@ pub struct Split {
     pub word: Word,
 }
 
-/// A state and a word that leads from it back to it.
+/// A state on a cycle, with a non-empty word that leads from it back to it.
 #[derive(Drop)]
 pub struct Loop {
-    /// The state.
+    /// The state at which the word starts and ends.
     pub state: u32,
     /// The letters of the word, at least one.
     pub word: Word,
@@ -42,18 +46,19 @@ pub struct Loop {
 /// A list of splits.
 pub type Splits = Items<Split>;
 
-/// A longest chain of splits of a graph, the rank of each state, and a cycle.
+/// A longest chain of splits of a graph, with the rank of each state and a loop. A chain from a state begins with a
+/// split whose first state is that state or is reached from it.
 #[derive(Drop)]
 pub struct Chain {
-    /// The splits, each reached from the one before it.
+    /// The splits in order. The second state of each reaches the first state of the next one.
     pub links: Splits,
-    /// For each state the length of the longest chain from it.
+    /// The rank of each state, at the state's index: the number of splits in a longest chain from it.
     pub ranks: Ranks,
-    /// A state on a cycle and its loop, if there is one.
+    /// A loop through a state that lies on a cycle, or `None` if the graph has no cycle.
     pub cycle: Option<Loop>,
 }
 
-/// The place of a greatest rank.
+/// Returns the index of a greatest rank: the first one.
 fn top_place(ranks: &[u32]) -> usize
     requires { 0 < length ranks.now }
     ensures place_in { result < length ranks.now }
@@ -68,7 +73,7 @@ fn top_place(ranks: &[u32]) -> usize
     top
 }
 
-/// A longest chain from a state, found by the best of each component.
+/// Returns a longest chain of splits from the state `start`. `bests` has the best chain of each component.
 fn chain_from(
     alloc: Global,
     g: &Multigraph,
@@ -104,7 +109,7 @@ fn chain_from(
     Ok(links)
 }
 
-/// A loop through a state that lies on a cycle.
+/// Returns a loop through `state`, which lies on a cycle.
 fn loop_at(
     alloc: Global,
     g: &Multigraph,
@@ -125,7 +130,7 @@ fn loop_at(
     }
 }
 
-/// A loop of a graph, if it has a cycle.
+/// Returns a loop through the least state that lies on a cycle, or `None` if the graph has no cycle.
 fn some_loop(
     alloc: Global,
     g: &Multigraph,
@@ -144,7 +149,7 @@ fn some_loop(
     Ok(None)
 }
 
-/// The rank 0 for each state.
+/// Returns `count` ranks of 0.
 fn no_ranks(alloc: Global, count: u32) -> Result<Ranks, OutOfMemory>
     ensures { IfOk result (λ r. r ≡ replicate count 0) }
 {
@@ -152,7 +157,7 @@ fn no_ranks(alloc: Global, count: u32) -> Result<Ranks, OutOfMemory>
     Ok(Items::from_vec(ranks))
 }
 
-/// The answer for a graph that has no split: an empty chain, ranks of 0, and a loop if there is one.
+/// Returns the result for a graph that has no split: an empty chain, ranks of 0, and a loop if there is a cycle.
 fn without_split(
     alloc: Global,
     g: &Multigraph,
@@ -171,7 +176,8 @@ fn without_split(
     })
 }
 
-/// The splits of a longest chain of a graph: a longest one from a state of the greatest rank.
+/// Returns the splits of a longest chain of a graph: a longest chain from a state of the greatest rank. The list is
+/// empty if the graph has no states.
 fn longest_links(
     alloc: Global,
     g: &Multigraph,
@@ -191,7 +197,7 @@ fn longest_links(
     chain_from(alloc, g, table, bests, top_place(ranks) as u32)
 }
 
-/// The answer for a graph, found by the parts of its product.
+/// Returns a longest chain of splits, the ranks and a loop of a graph without a twin, for which `table` was made.
 fn chain_by(alloc: Global, g: &Multigraph, table: &PairTable) -> Result<Chain, OutOfMemory>
     requires table { IsTable g.now table.now }
     requires no_twin { HasNoTwin (edges_of g.now) }
@@ -208,7 +214,7 @@ fn chain_by(alloc: Global, g: &Multigraph, table: &PairTable) -> Result<Chain, O
     })
 }
 
-/// The answer for a graph that may have a split.
+/// Returns a longest chain of splits, the ranks and a loop of a graph without a twin, which may have a split.
 fn with_splits(alloc: Global, g: &Multigraph, components: Components) -> Result<Chain, OutOfMemory>
     requires parts { IsParts (edges_of g.now) g.now.states components }
     requires no_twin { HasNoTwin (edges_of g.now) }
@@ -218,7 +224,8 @@ fn with_splits(alloc: Global, g: &Multigraph, components: Components) -> Result<
     chain_by(alloc, g, &table)
 }
 
-/// The answer for a graph without a twin. Such a graph has no split unless two of its components have states on cycles.
+/// Returns a longest chain of splits, the ranks and a loop of a graph without a twin. Such a graph has no split unless
+/// at least two of its components have states on cycles.
 fn greatest(alloc: Global, g: &Multigraph, components: Components) -> Result<Chain, OutOfMemory>
     requires parts { IsParts (edges_of g.now) g.now.states components }
     requires no_twin { HasNoTwin (edges_of g.now) }
@@ -231,15 +238,12 @@ fn greatest(alloc: Global, g: &Multigraph, components: Components) -> Result<Cha
     }
 }
 
-/// A longest chain of splits of a graph without a twin, all ranks and a cycle, found over the graph's strongly connected
-/// components.
-///
-/// The components must be those of the graph, as [`Multigraph::components`] makes them. A caller that needs them for more than
-/// one search makes them only once. The search is the same as in [`degree`]. If no two components have states on cycles, there
-/// is no split, and nothing is searched.
+/// Returns the same as [`degree`] for a graph without a twin, whose strongly connected components are `components`, as
+/// [`Multigraph::components`] returns them. If all states on cycles are in one component, there is no split, and
+/// nothing is searched.
 ///
 /// # Errors
-/// [`OutOfMemory`] if there was no memory for the search or the answer.
+/// [`OutOfMemory`] if there is not enough memory for the search or the result.
 pub fn degree_over(
     alloc: Global,
     g: &Multigraph,
@@ -258,21 +262,21 @@ pub fn degree_over(
     Ok(chain)
 }
 
-/// A longest chain of splits of a graph without a twin, all ranks and a cycle.
+/// Returns a longest chain of splits of a graph without a twin, the rank of each state, and a loop if the graph has a
+/// cycle.
 ///
-/// A split leads from a state on a cycle to a state on a cycle of a lower component. If two components have such states, the
-/// search takes the moves between these states that stay in a component, and makes the product of two copies of them. A pair of
-/// the product falls if its second state is in a lower component than the first. Moves lead from pairs that fall to pairs that
-/// fall, so all other pairs are left out, and so are letters without a move.
+/// A split leads from a state on a cycle to a state on a cycle of a lower component, that is, a component with a
+/// smaller number. The search takes the moves of the states on cycles that stay in a component, and makes the product
+/// of two copies of this graph. Only pairs whose second state is in a lower component than the first have moves.
 ///
-/// Each part of the product that holds a cycle is searched at most once, from one of its pairs (the test for IDA of Weber and
-/// Seidl 1991). The search goes over triples of states whose outer two are a pair of that part. Each of these pairs has a row of
-/// bits for the middle states, so no triple is met twice. Middle states that can't reach the second state of the split are left
-/// out, and nothing is searched if the first state can't reach it. Ranks and chains are found component by component, and only a
-/// split that lengthens a chain is looked for.
+/// Each part of the product that holds a cycle is searched at most once, from one of its pairs (the test for IDA of
+/// Weber and Seidl 1991). The search goes over triples of states whose outer two are a pair of that part. Each of these
+/// pairs has a row of bits for the middle states, so no triple is met twice. Middle states that can't reach the second
+/// state of the split are left out. Ranks and chains are found component by component, and only a split that makes a
+/// chain longer is searched for.
 ///
 /// # Errors
-/// [`OutOfMemory`] if there was no memory for the search or the answer.
+/// [`OutOfMemory`] if there is not enough memory for the search or the result.
 pub fn degree(alloc: Global, g: &Multigraph) -> Result<Chain, OutOfMemory>
     requires no_twin { HasNoTwin (edges_of g.now) }
     ensures links { IfOk result (λ c. IsChain (edges_of g.now) c.links) }

@@ -1,4 +1,5 @@
-//! The letters on which moves lead to the states of a graph.
+//! The letters on which moves lead to each state of a graph, as the bits of one number for each state. The letter `l`
+//! has the bit `l % 64`, so letters whose difference is a multiple of 64 share a bit.
 
 ghost use Rattle.std.specs.Prelude.{◌≡◌, ℕ, ◌<◌, ◌+◌, ◌%◌, All, length, IfOk};
 ghost use Rattle.std.specs.Int.{bit_at};
@@ -9,7 +10,7 @@ use rl_graph::Multigraph;
 use rl_lists::OutOfMemory;
 use std::alloc::Global;
 
-/// Sets the bit of a letter in a word.
+/// Returns `word` with the bit of `letter` set.
 fn with_letter(word: u64, letter: u32) -> u64
     ensures set { bit_at result (letter % 64) ≡ 1 }
     ensures kept { (k : ℕ) → bit_at word k ≡ 1 → bit_at result k ≡ 1 }
@@ -18,7 +19,7 @@ fn with_letter(word: u64, letter: u32) -> u64
     word | (1 << bit)
 }
 
-/// Sets the bit of a letter in the word of each target.
+/// Sets the bit of `letter` in the entry of each target.
 fn mark_targets(entries: &mut Vec<u64>, targets: &[u32], letter: u32)
     requires { All (λ target. target < length entries.old.items) targets.now }
     ensures size { length entries.new.items ≡ length entries.old.items }
@@ -31,7 +32,7 @@ fn mark_targets(entries: &mut Vec<u64>, targets: &[u32], letter: u32)
     }
 }
 
-/// Marks the targets of all moves of a state.
+/// Sets the bits of all moves of a state: for each move, the bit of its letter in the entry of its target.
 fn mark_moves(entries: &mut Vec<u64>, g: &Multigraph, state: u32)
     requires state_in { state < g.now.states }
     requires so_far { AreEntriesUpTo g.now state entries.old.items }
@@ -42,11 +43,11 @@ fn mark_moves(entries: &mut Vec<u64>, g: &Multigraph, state: u32)
     }
 }
 
-/// For each state of a graph, the letters on which moves lead to it, as the bits of a word. Letters whose numbers differ by a
-/// multiple of 64 share a bit.
+/// Returns, for each state of a graph, the letters on which moves lead to it, as the bits of a number. The letter `l`
+/// has the bit `l % 64`.
 ///
 /// # Errors
-/// [`OutOfMemory`] if there was no memory for them.
+/// [`OutOfMemory`] if there is not enough memory for the numbers.
 pub(crate) fn entries_of(alloc: Global, g: &Multigraph) -> Result<Vec<u64>, OutOfMemory>
     ensures { IfOk result (λ v. AreEntries g.now v.items) }
 {

@@ -1,5 +1,6 @@
-//! The parts of the product of two copies of a graph, with only the moves of the pairs that fall. A pair falls if its second
-//! state is in a lower component than the first.
+//! The parts of the product of two copies of a graph in which only pairs that fall have moves. A pair falls if its
+//! second state is in a component with a smaller number than the first. `levels` has the number of each state's
+//! component.
 
 ghost use Rattle.std.specs.Prelude.{◌≡◌, ◌+◌, ◌*◌, ◌<◌, ◌&&◌, not, nat_lt, nat_eq, length, slice_index, IfOk, OnOk};
 ghost use Rattle.std.specs.Int.Bits.{bit_and};
@@ -11,8 +12,9 @@ use rl_graph::{Multigraph, Parts, pair_parts};
 use rl_lists::OutOfMemory;
 use std::alloc::Global;
 
-/// Whether a pair falls and a move may lead to it, which needs a letter on which moves lead to both of its states. Letters whose
-/// numbers differ by a multiple of 64 count as the same.
+/// Returns whether the pair of the states `first` and `second` falls and their entries have a bit in common. If they
+/// have none, no letter leads to both states, so no move leads to the pair. Letters whose difference is a multiple of
+/// 64 share a bit.
 fn is_walked(levels: &[u32], entries: &[u64], first: usize, second: usize) -> bool
     requires first_in { first < length levels.now }
     requires second_in { second < length levels.now }
@@ -22,7 +24,8 @@ fn is_walked(levels: &[u32], entries: &[u64], first: usize, second: usize) -> bo
     levels[second] < levels[first] && entries[first] & entries[second] != 0
 }
 
-/// Appends the flags of the pairs with this first state: whether the pair falls and a move may lead to it.
+/// Appends a flag for each pair with the first state `first`, which says whether the pair falls and the entries of its
+/// two states have a bit in common.
 fn push_flags(
     flags: &mut Vec<bool>,
     levels: &[u32],
@@ -40,7 +43,8 @@ fn push_flags(
     Ok(())
 }
 
-/// For each pair, whether it falls and a move may lead to it.
+/// Returns a flag for each pair of states, which says whether the pair falls and the entries of its two states have a
+/// bit in common. In a graph with `n` states, the pair of `p` and `q` has the index `p * n + q`.
 fn falling_flags(alloc: Global, levels: &[u32], entries: &[u64]) -> Result<Vec<bool>, OutOfMemory>
     requires { length entries.now ≡ length levels.now }
     ensures { IfOk result (λ v. AreFlags levels.now entries.now (length levels.now) v.items) }
@@ -52,11 +56,12 @@ fn falling_flags(alloc: Global, levels: &[u32], entries: &[u64]) -> Result<Vec<b
     Ok(flags)
 }
 
-/// The parts of the product of two copies of a graph, with only the moves of the pairs that fall. `levels` has the number of each
-/// state's component. The search visits only pairs that a move may lead to, since every other pair is a part by itself.
+/// Returns the parts of the product of two copies of a graph in which only pairs that fall have moves. `levels` has the
+/// number of each state's component. The search follows only pairs to which a move may lead, since every other pair is
+/// a part by itself.
 ///
 /// # Errors
-/// [`OutOfMemory`] if there was no memory for them.
+/// [`OutOfMemory`] if there is not enough memory for the search or the parts.
 pub(crate) fn falling_parts(
     alloc: Global,
     g: &Multigraph,

@@ -1,4 +1,4 @@
-//! Lists of the states of each component.
+//! The states of each component, as linked lists.
 
 ghost use Rattle.std.specs.Prelude.{◌≡◌, ℕ, ◌<◌, length, IfOk};
 ghost use Rattle.rl_graph.specs.Parts.{number_of};
@@ -8,18 +8,18 @@ use rl_graph::Components;
 use rl_lists::OutOfMemory;
 use std::alloc::Global;
 
-/// The first state of each component, and for each state the next one of its component. If there is none, the entry is the
-/// number of states.
+/// The states of each component as a linked list in ascending order: `firsts` has the first state of each component,
+/// and `nexts` has, for each state, the next one of its component. If there is none, the entry is the number of states.
 #[derive(Drop)]
 pub(crate) struct Groups {
     pub(crate) firsts: Vec<u32>,
     pub(crate) nexts: Vec<u32>,
 }
 
-/// Lists the states of each component of a graph with `count` states.
+/// Returns the lists of the states of each component, for a graph with `count` states.
 ///
 /// # Errors
-/// [`OutOfMemory`] if there was no memory for them.
+/// [`OutOfMemory`] if there is not enough memory for the lists.
 pub(crate) fn groups_of(
     alloc: Global,
     components: &Components,

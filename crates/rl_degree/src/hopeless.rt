@@ -1,4 +1,4 @@
-//! The states that can't reach a component.
+//! The hopeless states for a component: those that can't reach it.
 
 ghost use Rattle.std.specs.Prelude.{◌≡◌, ℕ, ◌<◌, All, length, slice_index, IfOk, OnOk};
 ghost use Rattle.rl_graph.specs.Graph.{edges_of};
@@ -11,7 +11,8 @@ use rl_lanes::BitRow;
 use rl_lists::OutOfMemory;
 use std::alloc::Global;
 
-/// A row of all states that can't reach a component. `reached` has the components that are reached from each component.
+/// Returns a row with a bit for each state, which is true if the state can't reach `component` according to `reached`.
+/// This has, for each component, a row with the components that it may reach.
 fn hopeless_row(
     alloc: Global,
     g: &Multigraph,
@@ -32,7 +33,7 @@ fn hopeless_row(
     Ok(row)
 }
 
-/// Makes the row of a component, unless it is there.
+/// Puts the row of the hopeless states for `component` into `rows`, unless the row at that index already has bits.
 fn fill_row(
     rows: &mut Vec<BitRow>,
     alloc: Global,
@@ -55,11 +56,12 @@ fn fill_row(
     Ok(())
 }
 
-/// For each component of a list, a row of all states that can't reach it. A component that isn't in the list has a row without
-/// places. `reached` has the components that are reached from each component.
+/// Returns a row for each component. For a component in `listed`, it has a bit for each state, which is true if the
+/// state can't reach the component according to `reached`; for any other component, the row is empty. `reached` has,
+/// for each component, a row with the components that it may reach.
 ///
 /// # Errors
-/// [`OutOfMemory`] if there was no memory for the rows.
+/// [`OutOfMemory`] if there is not enough memory for the rows.
 pub(crate) fn hopeless_rows(
     alloc: Global,
     g: &Multigraph,

@@ -1,4 +1,4 @@
-//! The states that a split may lead from or to.
+//! The states that can be part of a split: the states on cycles.
 
 ghost use Rattle.std.specs.Prelude.{◌≡◌, ℕ, ◌<◌, true, false, length, IfOk};
 ghost use Rattle.rl_graph.specs.Parts.{number_of, cycle_of};
@@ -10,7 +10,7 @@ use rl_kernel::Kernel;
 use rl_lists::OutOfMemory;
 use std::alloc::Global;
 
-/// Whether all states on cycles are in the component with this number.
+/// Returns whether all states on cycles are in the component with the number `number`. `count` is the number of states.
 fn is_alone(components: &Components, count: u32, number: u32) -> bool
     requires size { length components.now.numbers ≡ count }
     ensures { result ≡ true → IsOneComponent components.now count number }
@@ -23,7 +23,7 @@ fn is_alone(components: &Components, count: u32, number: u32) -> bool
     true
 }
 
-/// Whether two components have states on cycles.
+/// Returns whether at least two components have states on cycles. `count` is the number of states.
 pub(crate) fn has_two(components: &Components, count: u32) -> bool
     requires size { length components.now.numbers ≡ count }
     ensures { result ≡ false → (r q : ℕ) → r < count → q < count → cycle_of components.now r ≡ true → cycle_of components.now q ≡ true → number_of components.now r ≡ number_of components.now q }
@@ -36,10 +36,11 @@ pub(crate) fn has_two(components: &Components, count: u32) -> bool
     false
 }
 
-/// The states that a split may lead from or to: those on cycles.
+/// Returns the kernel of a graph with `count` states: the list of its states on cycles, in ascending order. Only these
+/// can be part of a split.
 ///
 /// # Errors
-/// [`OutOfMemory`] if there was no memory for them.
+/// [`OutOfMemory`] if there is not enough memory for the kernel.
 pub(crate) fn kernel_of(
     alloc: Global,
     components: &Components,

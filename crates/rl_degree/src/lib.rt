@@ -1,17 +1,23 @@
-//! Chains of splits: the search that decides the degree of a polynomial growth.
+//! Chains of splits: the search that finds the degree of a polynomial growth.
 //!
-//! A split is a pair of different states `r` and `q` with one word that leads from `r` to `r`, from `r` to `q` and from `q`
-//! to `q`. It is a witness of IDA, the criterion of Weber and Seidl (1991) for an infinite degree of ambiguity. Without a twin
-//! that ambiguity is polynomial. [`degree`] takes a graph without a twin and returns a [`Chain`]: as many splits as possible,
-//! each reached from the one before. The chain also has the rank of each state, which is the length of the longest chain from
-//! it, and a [`Loop`] if the graph has a cycle. The search goes by strongly connected components. It looks at triples of states
-//! only if a pair of the product may be a split. [`degree_over`] does the same with components that the caller has found.
+//! A split is a pair of different states `r` and `q` with one word that leads from `r` to `r`, from `r` to `q` and from
+//! `q` to `q`. It is a witness of IDA, the criterion of Weber and Seidl (1991) for an infinite degree of ambiguity. In
+//! a graph without a twin (a witness of EDA), the ambiguity is polynomial. [`degree`] takes a graph without a twin and
+//! returns a [`Chain`]: a longest list of splits each of which is reached from the one before it, the rank of each
+//! state, which is the number of splits in a longest chain from it, and a [`Loop`] if the graph has a cycle.
+//! [`degree_over`] does the same with components that the caller has already found.
+//!
+//! The search goes by strongly connected components; a component that is reached from another one has the smaller
+//! number and is called lower. The kernel is the list of the states on cycles, and an inner move is a move between them
+//! that stays in a component. Triples of states are searched only if a pair of the product of two copies of the inner
+//! moves may be a split.
 //!
 //! # What is proved
 //!
-//! No chain from any state is longer, and each rank is exact. There is a loop if and only if some state lies on a cycle. The
-//! module [`laws`] bounds paths from above: in a graph without a twin, a word of n letters has at most `c (n + 1)^d` paths
-//! from a state of rank d to another state, and c depends only on d and the size of the graph.
+//! No chain from any state is longer, and each rank is exact. There is a loop if and only if some state lies on a
+//! cycle. The module [`laws`] bounds the number of paths from above: in a graph without a twin, at most `c (m + 1)^d`
+//! paths lead from a state of rank `d` to any one state along a word of `m` letters, and `c` depends only on `d` and
+//! the size of the graph.
 //!
 //! # Example
 //!

@@ -1,4 +1,5 @@
-//! The moves of a graph as tables of bits.
+//! The moves of a graph as tables of bits, one table for each letter. The row of each state has a bit for each state,
+//! which is true if a move on the letter leads there.
 
 ghost use Rattle.std.specs.Prelude.{◌≡◌, ◌<◌, ◌+◌, false, IfOk};
 ghost use Rattle.rl_degree.specs.internal.Moves.{IsMoveTable, IsMoveTableUpTo, IsUsed, AreMoveTables};
@@ -8,7 +9,7 @@ use rl_lanes::BitTable;
 use rl_lists::OutOfMemory;
 use std::alloc::Global;
 
-/// Marks the targets of a state's moves on a letter, in the state's row of the letter's table.
+/// Sets the bits of the moves of `state` on `letter` in the letter's table.
 fn mark_moves(table: &mut BitTable, g: &Multigraph, state: u32, letter: u32)
     requires state_in { state < g.now.states }
     requires letter_in { letter < g.now.letters }
@@ -21,7 +22,7 @@ fn mark_moves(table: &mut BitTable, g: &Multigraph, state: u32, letter: u32)
     }
 }
 
-/// The table of a letter: the row of each state holds the targets of its moves on the letter.
+/// Returns the table of the moves of a graph on `letter`.
 fn move_table(alloc: Global, g: &Multigraph, letter: u32) -> Result<BitTable, OutOfMemory>
     requires { letter < g.now.letters }
     ensures { IfOk result (IsMoveTable g.now letter) }
@@ -34,7 +35,7 @@ fn move_table(alloc: Global, g: &Multigraph, letter: u32) -> Result<BitTable, Ou
     Ok(table)
 }
 
-/// Whether a graph has a move on a letter.
+/// Returns whether any state has a move on `letter`.
 fn is_used(g: &Multigraph, letter: u32) -> bool
     requires { letter < g.now.letters }
     ensures { result ≡ false → IsUsed g.now letter → ⊥ }
@@ -47,7 +48,7 @@ fn is_used(g: &Multigraph, letter: u32) -> bool
     false
 }
 
-/// The table of a letter, which is empty if no inner move is on the letter.
+/// Returns the table of the moves of `g` on `letter`, or a table without rows if `inner` has no move on `letter`.
 fn table_on(
     alloc: Global,
     g: &Multigraph,
@@ -65,10 +66,11 @@ fn table_on(
     }
 }
 
-/// A table for each letter of a graph. It is empty if no inner move is on the letter.
+/// Returns a table for each letter: the moves of `g` on the letter, or a table without rows if `inner` has no move on
+/// it.
 ///
 /// # Errors
-/// [`OutOfMemory`] if there was no memory for them.
+/// [`OutOfMemory`] if there is not enough memory for the tables.
 pub(crate) fn move_tables(
     alloc: Global,
     g: &Multigraph,

@@ -1,4 +1,8 @@
-//! The pairs of states that may be splits, by the parts of the product of two copies of the graph of inner moves.
+//! The pairs of states that may be splits. The graph of inner moves has the states on cycles (the kernel) and those of
+//! their moves that stay within a component; its states are the places in the kernel. In the product of two copies of
+//! it, the pair of the states `p` and `q` has the number `p * n + q`, where `n` is the number of states. A pair falls
+//! if its second state is in a component with a smaller number than the first; only pairs that fall have moves. A part
+//! is a strongly connected component of this product.
 
 ghost use Rattle.std.specs.Prelude.{◌≡◌, ℕ, ◌<◌, ◌+◌, ◌*◌, ◌^◌, false, length, slice_index, MatchOption, IfOk, OnOk};
 ghost use Rattle.rl_graph.specs.Graph.{edges_of};
@@ -18,8 +22,9 @@ use rl_lanes::{BitRow, BitTable};
 use rl_lists::{Items, OutOfMemory};
 use std::alloc::Global;
 
-/// The pairs that lie on a cycle and fall, by parts: for each part of the product the number of its list, then the lists of
-/// members, and for each pair its place in the list of its part. The list 0 is empty, and belongs to all parts without a member.
+/// The pairs that fall and lie on a cycle of the product, sorted by parts. `numbers` has, for each part, the index of
+/// its list in `members`, and `places` has, for each pair, its index in the list of its part. The list 0 is empty, and
+/// belongs to all parts without such a pair.
 #[derive(Drop)]
 pub(crate) struct Placed {
     pub(crate) numbers: Vec<u64>,
@@ -27,11 +32,11 @@ pub(crate) struct Placed {
     pub(crate) places: Vec<u64>,
 }
 
-/// What the search for splits goes by: the components of the graph, those that are reached from each of them, the states that a
-/// split may lead from or to, the inner moves between these, the parts of the product of two copies of the inner moves with only
-/// the moves of the pairs that fall, and the pairs of each part. `hopeless` has a row for each component that a split may lead
-/// to: the states that can't reach it. `moves` has a table of the graph's moves for each letter. The table is empty if no inner
-/// move is on the letter, and there are no tables at all if no part has a pair.
+/// What the search for splits needs: the components of the graph, the components that each may reach, the kernel, the
+/// graph of inner moves, the parts of its product, and the pairs of each part that may be splits. `hopeless` has, for
+/// each component that has a state of the kernel, a row of the states that can't reach it; other rows are empty.
+/// `moves` has a table of the graph's moves for each letter. It is empty for a letter without an inner move, and there
+/// are no tables if no pair may be a split.
 #[derive(Drop)]
 pub(crate) struct PairTable {
     pub(crate) components: Components,
@@ -44,7 +49,7 @@ pub(crate) struct PairTable {
     pub(crate) moves: Vec<BitTable>,
 }
 
-/// The number of the pair of two states.
+/// Returns the number of the pair of the states `from` and `to` in a graph with `count` states: `from * count + to`.
 pub(crate) fn pair_of(count: u64, from: u32, to: u32) -> u64
     requires { count < 2 ^ 32 }
     ensures { result ≡ from * count + to }
@@ -53,7 +58,7 @@ pub(crate) fn pair_of(count: u64, from: u32, to: u32) -> u64
 }
 
 impl PairTable {
-    /// The pairs of a part.
+    /// Returns the pairs of a part that may be splits.
     pub(crate) fn members_of(&self, part: u64) -> &[u64]
         requires { part < length self.now.placed.numbers.items }
         ensures { result.now ≡ row_of (lists_of self.now.placed) part }
@@ -65,7 +70,7 @@ impl PairTable {
         }
     }
 
-    /// The pair at a place among the pairs of a part.
+    /// Returns the pair with the index `place` in the list of a part.
     pub(crate) fn pair_at(&self, part: u64, place: usize) -> u64
         requires part_in { part < length self.now.placed.numbers.items }
         requires place_in { place < length (row_of (lists_of self.now.placed) part) }
@@ -75,7 +80,7 @@ impl PairTable {
         members[place]
     }
 
-    /// The place of a pair among the pairs of a part, if it is one of them.
+    /// Returns the index of a pair in the list of a part, or `None` if the list doesn't have the pair.
     pub(crate) fn place_in(&self, part: u64, pair: u64) -> Option<usize>
         requires part_in { part < length self.now.placed.numbers.items }
         requires pair_in { pair < length self.now.placed.places.items }
@@ -91,8 +96,9 @@ impl PairTable {
     }
 }
 
-/// Whether a pair lies on a cycle of the product and falls: its second state is in a lower component than the first, so the
-/// first can't be reached from the second.
+/// Returns whether a pair falls and lies on a cycle of the product. A pair falls if its second state is in a component
+/// with a smaller number than the first, so the first can't be reached from the second. `count` is the number of
+/// states, and `levels` has the number of each state's component.
 pub(crate) fn wanted(levels: &[u32], parts: &Parts, count: u64, pair: u64) -> bool
     requires pair_in { pair < count * count }
     requires few { count < 2 ^ 32 }
@@ -104,7 +110,7 @@ pub(crate) fn wanted(levels: &[u32], parts: &Parts, count: u64, pair: u64) -> bo
 }
 
 impl Placed {
-    /// `count` parts without a pair.
+    /// Returns the lists of `count` parts without a pair.
     fn new(alloc: Global, count: usize) -> Result<Placed, OutOfMemory>
         ensures { IfOk result (λ p. IsBarePlaced count (lists_of p)) }
     {
@@ -119,7 +125,7 @@ impl Placed {
         })
     }
 
-    /// The number of a part's own list. Makes the list if the part has none yet.
+    /// Returns the index of a part's own list, which is made if the part still has the list 0.
     fn own_list(&mut self, alloc: Global, part: u64) -> Result<u64, OutOfMemory>
         requires part_in { part < length self.old.numbers.items }
         requires lists { HaveOwnLists (lists_of self.old) }
@@ -135,7 +141,7 @@ impl Placed {
         Ok(next)
     }
 
-    /// Appends a pair to the members of a part.
+    /// Appends a pair to the list of a part, and stores its place.
     fn put(&mut self, alloc: Global, part: u64, pair: u64) -> Result<(), OutOfMemory>
         requires part_in { part < length self.old.numbers.items }
         requires pair_in { pair < length self.old.places.items }
@@ -151,7 +157,7 @@ impl Placed {
     }
 }
 
-/// The wanted pairs by parts.
+/// Returns the pairs that fall and lie on a cycle of the product, sorted by parts. `count` is the number of states.
 fn placed_pairs(
     alloc: Global,
     levels: &[u32],
@@ -174,7 +180,8 @@ fn placed_pairs(
     Ok(placed)
 }
 
-/// The tables of the letters that inner moves are on. There are none if no part has a pair.
+/// Returns the tables of moves for the letters, as [`move_tables`] makes them, or no tables if no pair falls and lies
+/// on a cycle.
 fn tables_for(
     alloc: Global,
     g: &Multigraph,
@@ -191,7 +198,8 @@ fn tables_for(
     }
 }
 
-/// The parts of the product of two copies of the graph of inner moves, the pairs of each part, and the tables of the letters.
+/// The parts of the product of two copies of the graph of inner moves, the pairs of each part that may be splits, and
+/// the tables of moves.
 #[derive(Drop)]
 struct Walked {
     parts: Parts,
@@ -199,7 +207,7 @@ struct Walked {
     moves: Vec<BitTable>,
 }
 
-/// The part of a [`PairTable`] that is made from the inner moves.
+/// Returns the fields of a [`PairTable`] that depend on the product of two copies of the graph of inner moves.
 fn walked_of(
     alloc: Global,
     g: &Multigraph,
@@ -221,10 +229,10 @@ fn walked_of(
     })
 }
 
-/// The tables of a graph with its components.
+/// Returns what the search for splits in a graph needs. `components` are the graph's strongly connected components.
 ///
 /// # Errors
-/// [`OutOfMemory`] if there was no memory for them.
+/// [`OutOfMemory`] if there is not enough memory for the table.
 pub(crate) fn table_of(
     alloc: Global,
     g: &Multigraph,

@@ -1,5 +1,5 @@
-//! The lengths of the longest chains of splits, found component by component. A component that is reached from another one
-//! comes first.
+//! The lengths of the longest chains of splits, found component by component in the order of their numbers. A component
+//! that is reached from another one has the smaller number and is called lower.
 
 ghost use Rattle.std.specs.Prelude.{◌≡◌, ℕ, ◌<◌, ◌≤◌, ◌+◌, ◌⊎◌, IfOk, OnOk};
 ghost use Rattle.rl_graph.specs.Graph.{edges_of, IsWhole};
@@ -18,7 +18,8 @@ use rl_graph::{Components, Multigraph};
 use rl_lists::{Items, OutOfMemory, Ranks};
 use std::alloc::Global;
 
-/// The number of links of a longest chain from the states of a component, and the two states of its first link, if it has one.
+/// The best chain of a component: the number of splits in a longest chain from its states (`rank`), and the two states
+/// of the first split. If `rank` is 0, `from` and `to` have no meaning.
 #[derive(Clone, Copy)]
 pub(crate) struct Best {
     pub(crate) rank: u32,
@@ -26,7 +27,7 @@ pub(crate) struct Best {
     pub(crate) to: u32,
 }
 
-/// The chain of the greater rank.
+/// Returns the chain of the greater rank, or `best` if the ranks are equal.
 fn better(best: Best, other: Best) -> Best
     ensures one { (result ≡ best) ⊎ (result ≡ other) }
     ensures least { best.rank ≤ result.rank }
@@ -35,7 +36,8 @@ fn better(best: Best, other: Best) -> Best
     if best.rank < other.rank { other } else { best }
 }
 
-/// The best of a chain and the chains of the states in lower components that a state's moves on a letter lead to.
+/// Returns the longest of the chain `start` and the best chains of the lower components to which the moves of `state`
+/// on `letter` lead.
 fn best_by_letter(
     g: &Multigraph,
     components: &Components,
@@ -65,7 +67,8 @@ fn best_by_letter(
     best
 }
 
-/// The best of a chain and the chains of the states in lower components that a state's moves lead to.
+/// Returns the longest of the chain `start` and the best chains of the lower components to which the moves of `state`
+/// lead.
 fn best_by_moves(
     g: &Multigraph,
     components: &Components,
@@ -89,8 +92,8 @@ fn best_by_moves(
     best
 }
 
-/// The better of a chain and the one that begins with the split from a state to another one, if the two states are a split. This
-/// is tested only if such a chain would be longer.
+/// Returns the longer of the chain `best` and the chain that begins with the split from `state` to `to`, if these are a
+/// split. This is tested only if `to` is in a lower component and its chain would be longer than `best`.
 fn best_by_split(
     g: &Multigraph,
     table: &PairTable,
@@ -130,7 +133,7 @@ fn best_by_split(
     })
 }
 
-/// The best of a chain and the chains that begin with a split from a state.
+/// Returns the longest of the chain `start` and the chains that begin with a split from `state`.
 fn best_by_splits(
     g: &Multigraph,
     table: &PairTable,
@@ -161,7 +164,8 @@ fn best_by_splits(
     Ok(best)
 }
 
-/// The best of the chains of the lower components that the moves of a component's states lead to.
+/// Returns the longest of the best chains of the lower components to which the moves of a component's states lead, or a
+/// chain without splits if there are none.
 fn best_by_all_moves(
     g: &Multigraph,
     components: &Components,
@@ -191,7 +195,7 @@ fn best_by_all_moves(
     best
 }
 
-/// The best of a chain and the chains that begin with a split from a component's states.
+/// Returns the longest of the chain `start` and the chains that begin with a split from a state of `component`.
 fn best_by_all_splits(
     g: &Multigraph,
     table: &PairTable,
@@ -224,8 +228,8 @@ fn best_by_all_splits(
     Ok(best)
 }
 
-/// The best chain of a component, by those of the lower components. Splits come last: the longer the chain is that the moves
-/// lead to, the fewer splits lengthen it, and only those are looked for.
+/// Returns the best chain of `component`. `bests` has the best chains of all lower components. Moves come before
+/// splits, since only splits that make the chain longer are then searched for.
 fn best_of(
     g: &Multigraph,
     table: &PairTable,
@@ -248,10 +252,10 @@ fn best_of(
     Ok(best)
 }
 
-/// The best chain of each component.
+/// Returns the best chain of each component, at the component's number.
 ///
 /// # Errors
-/// [`OutOfMemory`] if there was no memory for them.
+/// [`OutOfMemory`] if there is not enough memory for the search or the chains.
 pub(crate) fn all_bests(
     alloc: Global,
     g: &Multigraph,
@@ -271,10 +275,10 @@ pub(crate) fn all_bests(
     Ok(bests)
 }
 
-/// The rank of each state.
+/// Returns the rank of each state: the number of splits in a longest chain from it.
 ///
 /// # Errors
-/// [`OutOfMemory`] if there was no memory for them.
+/// [`OutOfMemory`] if there is not enough memory for the ranks.
 pub(crate) fn ranks_of(
     alloc: Global,
     g: &Multigraph,

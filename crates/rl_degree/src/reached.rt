@@ -1,4 +1,5 @@
-//! The components that are reached from each component.
+//! The components that may be reached from each component, as rows of bits. A component that is reached from another
+//! one has the smaller number.
 
 ghost use Rattle.std.specs.Prelude.{◌≡◌, ℕ, ◌<◌, [], All, length, slice_index_or, IfOk};
 ghost use Rattle.rl_lanes.specs.Rows.{IsSubset};
@@ -14,7 +15,7 @@ use rl_lanes::BitRow;
 use rl_lists::OutOfMemory;
 use std::alloc::Global;
 
-/// Adds the row with a number, if there is one.
+/// Sets all bits in `row` that are true in the row with the index `number`, if there is such a row.
 fn join_row(row: &mut BitRow, rows: &[BitRow], number: usize)
     requires { number < length rows.now → length (slice_index_or rows.now number []) ≡ length row.old }
     ensures grows { IsSubset row.old row.new }
@@ -27,7 +28,8 @@ fn join_row(row: &mut BitRow, rows: &[BitRow], number: usize)
     row.or_into(&rows[number]);
 }
 
-/// Adds the rows of the components of some states, as far as there are rows.
+/// Sets all bits in `row` that are true in the rows of the components of the states `targets`. Components without a row
+/// are left out.
 fn join_targets(row: &mut BitRow, rows: &[BitRow], components: &Components, targets: &[u32])
     requires targets_in { All (λ target. target < length components.now.numbers) targets.now }
     requires wide { (k : ℕ) → k < length rows.now → length (slice_index_or rows.now k []) ≡ length row.old }
@@ -40,7 +42,8 @@ fn join_targets(row: &mut BitRow, rows: &[BitRow], components: &Components, targ
     }
 }
 
-/// Adds the rows of the lower components that the moves of a state lead to.
+/// Sets all bits in `row` that are true in the rows of the components to which the moves of `state` lead. Components
+/// without a row are left out.
 fn join_moves(
     row: &mut BitRow,
     rows: &[BitRow],
@@ -60,7 +63,8 @@ fn join_moves(
     }
 }
 
-/// The row of a component, made from the rows of the lower ones: the component itself, and all that its moves lead to.
+/// Returns the row of `component`: its own bit is true, and so are all bits of the rows of the components to which its
+/// states move. `rows` has the rows of the components with smaller numbers.
 fn reached_row(
     alloc: Global,
     g: &Multigraph,
@@ -87,10 +91,10 @@ fn reached_row(
     Ok(row)
 }
 
-/// For each component a row of bits with all components that are reached from it.
+/// Returns, for each component, a row with a bit for each component, which is true if the component is reached.
 ///
 /// # Errors
-/// [`OutOfMemory`] if there was no memory for the rows.
+/// [`OutOfMemory`] if there is not enough memory for the rows.
 pub(crate) fn reached_rows(
     alloc: Global,
     g: &Multigraph,

@@ -1,11 +1,12 @@
-//! The search for the word of a split, by rows of states. It goes over triples of states that move side by side on the same
-//! letters. The outer two are a pair of a part of the product. For each of these pairs a row of bits holds the middle states
-//! that were met beside it. Middle states that were met together stay together, so one step moves a whole row.
+//! The search for the word of a split. It goes over triples of states that move side by side on the same letters. The
+//! outer two are a pair of a part of the product of two copies of the graph of inner moves. For each of these pairs, a
+//! row of bits has the middle states that were met beside it, which are states of the whole graph. One step moves a
+//! whole row. The place of a pair is its index among the pairs of the part.
 
 ghost use Rattle.std.specs.Prelude.{◌≡◌, ℕ, ◌<◌, ◌≤◌, ◌+◌, ◌*◌, ◌/◌, ◌%◌, [], ◌∷◌, true, false, length, replicate, slice_index_or, IfOk, OnOk, IfSome, IfNone};
 ghost use Rattle.rl_graph.specs.Paths.{Has};
 ghost use Rattle.rl_degree.specs.internal.Pairs.{IsTable};
-ghost use Rattle.rl_degree.specs.internal.Rows.{field_of, stand_of, row_with, start_stand, number_of_new, steps_with, has_middle, outer_of, outer_moves, behind, word_at, IsRooted, IsReached, IsSearching, IsImage, IsMet, IsFurther, IsFollowedOn, IsFollowedUpTo};
+ghost use Rattle.rl_degree.specs.internal.Rows.{field_of, search_state_of, row_with, start_state, number_of_new, steps_with, has_middle, outer_of, outer_moves, behind, word_at, IsRooted, IsReached, IsSearching, IsImage, IsMet, IsFurther, IsFollowedOn, IsFollowedUpTo};
 
 use crate::pairs::{PairTable, pair_of};
 use rl_graph::Multigraph;
@@ -14,14 +15,15 @@ use rl_lists::{Items, OutOfMemory, Word};
 use std::alloc::Global;
 use std::collections::VecDeque;
 
-/// A step of a search: the step that it follows, and the letter. The steps are numbered from 1, and 0 is the start.
+/// A step of a search: the number of the step that it follows, and its letter. The steps are numbered from 1, and 0 is
+/// the start.
 #[derive(Clone, Copy)]
 struct Step {
     from: usize,
     letter: u32,
 }
 
-/// What a step found: a pair, by its place in the list of its part, and the middle states that are new beside it.
+/// What a step found: the number of the step, the place of a pair, and the middle states that are new beside it.
 #[derive(Drop)]
 pub(crate) struct Found {
     step: usize,
@@ -29,9 +31,9 @@ pub(crate) struct Found {
     middle: BitRow,
 }
 
-/// A search for a word that leads a pair of states to itself and one middle state to another one. It has the middle states that
-/// were seen beside each pair of the part, the steps, and what they found that was not followed yet. A search that is not asked
-/// for the word keeps no steps, and so needs no more than a few bits for each triple.
+/// A search for a word that leads the pair at `place` back to itself and the middle state `from` to the middle state
+/// `to`. `seen` has the middle states that were met beside each pair of the part, and `queue` has what was found and
+/// not followed yet. Steps are kept only if `keeps` is true, which the word needs.
 #[derive(Drop)]
 pub(crate) struct SplitSearch {
     keeps: bool,
@@ -43,10 +45,10 @@ pub(crate) struct SplitSearch {
     queue: VecDeque<Found>,
 }
 
-/// `count` copies of a row.
+/// Returns `count` copies of a row.
 ///
 /// # Errors
-/// [`OutOfMemory`] if there was no memory for them.
+/// [`OutOfMemory`] if there is not enough memory for the copies.
 pub(crate) fn copies_of(
     alloc: Global,
     row: &BitRow,
@@ -61,7 +63,8 @@ pub(crate) fn copies_of(
     Ok(copies)
 }
 
-/// The queue at the start of a search: the pair at a place with one middle state.
+/// Returns the queue at the start of a search: the middle state `from` beside the pair at `place`. `states` is the
+/// number of states.
 fn first_queue(
     alloc: Global,
     states: usize,
@@ -83,11 +86,12 @@ fn first_queue(
 }
 
 impl SplitSearch {
-    /// A search over a part with `pairs` pairs. It begins with the pair at a place and the middle state `from`, and looks for that
-    /// pair with the middle state `to`. The states of the row `hopeless` count as seen from the start, so it never follows them.
+    /// Returns a search over a part with `pairs` pairs. It starts with the middle state `from` beside the pair at
+    /// `place`, and looks for the middle state `to` beside the same pair. The states of the row `hopeless` count as
+    /// seen from the start, so they are never followed, except for `from`.
     ///
     /// # Errors
-    /// [`OutOfMemory`] if there was no memory for the rows.
+    /// [`OutOfMemory`] if there is not enough memory for the rows.
     pub(crate) fn new(
         alloc: Global,
         keeps: bool,
@@ -99,7 +103,7 @@ impl SplitSearch {
     ) -> Result<SplitSearch, OutOfMemory>
         requires place_in { place < pairs }
         requires from_in { from < length hopeless.now }
-        ensures { IfOk result (λ s. stand_of s ≡ start_stand keeps hopeless.now pairs place from to) }
+        ensures { IfOk result (λ s. search_state_of s ≡ start_state keeps hopeless.now pairs place from to) }
     {
         let mut seen = copies_of(alloc, hopeless, pairs)?;
         seen[place].set(from as usize, true);
@@ -115,15 +119,15 @@ impl SplitSearch {
         })
     }
 
-    /// Takes what was found first of all that was not followed yet.
+    /// Removes from the queue what was found first, and returns it, or `None` if the queue is empty.
     pub(crate) fn next(&mut self) -> Option<Found>
-        ensures found { IfSome result (λ f. stand_of self.old ≡ behind f (stand_of self.new)) }
-        ensures none { IfNone result ((stand_of self.old).queue ≡ []) }
+        ensures found { IfSome result (λ f. search_state_of self.old ≡ behind f (search_state_of self.new)) }
+        ensures none { IfNone result ((search_state_of self.old).queue ≡ []) }
     {
         self.queue.pop_front()
     }
 
-    /// Whether the search has met what it looks for.
+    /// Returns whether `found` has the goal: the middle state `to` beside the pair with which the search started.
     pub(crate) fn is_goal(&self, found: &Found) -> bool
         requires { self.now.to < length found.now.middle }
         ensures yes { result ≡ true → (found.now.place ≡ self.now.place) × (has_middle found.now self.now.to ≡ true) }
@@ -132,10 +136,11 @@ impl SplitSearch {
         found.place == self.place && found.middle.get(self.to as usize)
     }
 
-    /// Keeps one more step, and returns its number. Returns 0 if the search keeps no steps.
+    /// Keeps a step on `letter` that follows the step `from`, and returns its number. Returns 0 if the search keeps no
+    /// steps.
     fn add_step(&mut self, from: usize, letter: u32) -> Result<usize, OutOfMemory>
-        ensures number { IfOk result (λ k. k ≡ number_of_new (stand_of self.old)) }
-        ensures steps { OnOk result (stand_of self.new ≡ record (stand_of self.old) { steps = steps_with from letter (stand_of self.old) }) }
+        ensures number { IfOk result (λ k. k ≡ number_of_new (search_state_of self.old)) }
+        ensures steps { OnOk result (search_state_of self.new ≡ record (search_state_of self.old) { steps = steps_with from letter (search_state_of self.old) }) }
     {
         if !self.keeps {
             return Ok(0);
@@ -144,7 +149,8 @@ impl SplitSearch {
         Ok(self.steps.len())
     }
 
-    /// Notes that a letter, after a step, leads to these middle states beside the pair at a place. New ones go into the queue.
+    /// Notes that `letter`, after the step `from`, leads to the middle states `image` beside the pair at `place`. Those
+    /// that weren't seen there before go into the queue.
     fn reach(
         &mut self,
         from: usize,
@@ -154,7 +160,7 @@ impl SplitSearch {
     ) -> Result<(), OutOfMemory>
         requires place_in { place < length self.old.seen.items }
         requires wide { length (slice_index_or self.old.seen.items place []) ≡ length image.now }
-        ensures { OnOk result (IsReached from letter place image.now (stand_of self.old) (stand_of self.new)) }
+        ensures { OnOk result (IsReached from letter place image.now (search_state_of self.old) (search_state_of self.new)) }
     {
         if image.is_subset(&self.seen[place]) {
             return Ok(());
@@ -171,7 +177,8 @@ impl SplitSearch {
         Ok(())
     }
 
-    /// Notes the middle states of a row beside one pair that the found pair moves to on a letter.
+    /// Notes the middle states `image` beside the pair `next`, to which the found pair moves on `letter`. If the pair
+    /// isn't in the list of the part, nothing changes.
     fn meet(
         &mut self,
         g: &Multigraph,
@@ -184,10 +191,10 @@ impl SplitSearch {
     ) -> Result<(), OutOfMemory>
         requires table { IsTable g.now table.now }
         requires part_in { part < table.now.inner.states * table.now.inner.states }
-        requires searching { IsSearching (field_of g.now table.now part) (behind found.now (stand_of self.old)) }
+        requires searching { IsSearching (field_of g.now table.now part) (behind found.now (search_state_of self.old)) }
         requires image { IsImage (field_of g.now table.now part) found.now letter image.now }
         requires moves { Has next (outer_moves (field_of g.now table.now part) found.now letter) }
-        ensures { OnOk result (IsFurther (field_of g.now table.now part) found.now (stand_of self.old) (stand_of self.new) × IsMet (field_of g.now table.now part) image.now (stand_of self.new) next) }
+        ensures { OnOk result (IsFurther (field_of g.now table.now part) found.now (search_state_of self.old) (search_state_of self.new) × IsMet (field_of g.now table.now part) image.now (search_state_of self.new) next) }
     {
         if let Some(place) = table.place_in(part, next) {
             self.reach(found.step, letter, place, image)?;
@@ -195,7 +202,8 @@ impl SplitSearch {
         Ok(())
     }
 
-    /// Notes them beside the pairs of one first state with each of the second states.
+    /// Notes the middle states `image` beside each pair of the state `first` and one of the states `seconds`, to which
+    /// the found pair moves on `letter`.
     fn spread_from(
         &mut self,
         g: &Multigraph,
@@ -209,10 +217,10 @@ impl SplitSearch {
     ) -> Result<(), OutOfMemory>
         requires table { IsTable g.now table.now }
         requires part_in { part < table.now.inner.states * table.now.inner.states }
-        requires searching { IsSearching (field_of g.now table.now part) (behind found.now (stand_of self.old)) }
+        requires searching { IsSearching (field_of g.now table.now part) (behind found.now (search_state_of self.old)) }
         requires image { IsImage (field_of g.now table.now part) found.now letter image.now }
         requires moves { (y : ℕ) → Has y seconds.now → Has (first * table.now.inner.states + y) (outer_moves (field_of g.now table.now part) found.now letter) }
-        ensures { OnOk result (IsFurther (field_of g.now table.now part) found.now (stand_of self.old) (stand_of self.new) × ((y : ℕ) → Has y seconds.now → IsMet (field_of g.now table.now part) image.now (stand_of self.new) (first * table.now.inner.states + y))) }
+        ensures { OnOk result (IsFurther (field_of g.now table.now part) found.now (search_state_of self.old) (search_state_of self.new) × ((y : ℕ) → Has y seconds.now → IsMet (field_of g.now table.now part) image.now (search_state_of self.new) (first * table.now.inner.states + y))) }
     {
         let count = u64::from(table.inner.states());
         for place in 0..seconds.len() {
@@ -222,7 +230,8 @@ impl SplitSearch {
         Ok(())
     }
 
-    /// Notes them beside the pairs of each of the first states with each of the second states.
+    /// Notes the middle states `image` beside each pair of one of the states `firsts` and one of the states `seconds`,
+    /// to which the found pair moves on `letter`.
     fn spread(
         &mut self,
         g: &Multigraph,
@@ -236,10 +245,10 @@ impl SplitSearch {
     ) -> Result<(), OutOfMemory>
         requires table { IsTable g.now table.now }
         requires part_in { part < table.now.inner.states * table.now.inner.states }
-        requires searching { IsSearching (field_of g.now table.now part) (behind found.now (stand_of self.old)) }
+        requires searching { IsSearching (field_of g.now table.now part) (behind found.now (search_state_of self.old)) }
         requires image { IsImage (field_of g.now table.now part) found.now letter image.now }
         requires moves { (x y : ℕ) → Has x firsts.now → Has y seconds.now → Has (x * table.now.inner.states + y) (outer_moves (field_of g.now table.now part) found.now letter) }
-        ensures { OnOk result (IsFurther (field_of g.now table.now part) found.now (stand_of self.old) (stand_of self.new) × ((x y : ℕ) → Has x firsts.now → Has y seconds.now → IsMet (field_of g.now table.now part) image.now (stand_of self.new) (x * table.now.inner.states + y))) }
+        ensures { OnOk result (IsFurther (field_of g.now table.now part) found.now (search_state_of self.old) (search_state_of self.new) × ((x y : ℕ) → Has x firsts.now → Has y seconds.now → IsMet (field_of g.now table.now part) image.now (search_state_of self.new) (x * table.now.inner.states + y))) }
     {
         for place in 0..firsts.len() {
             self.spread_from(g, table, part, found, letter, image, firsts[place], seconds)?;
@@ -247,7 +256,8 @@ impl SplitSearch {
         Ok(())
     }
 
-    /// Follows what was found on one letter. `first` and `second` are the states of the found pair.
+    /// Follows `found` on `letter`: notes the middle states to which its middle states move, beside each pair to which
+    /// its pair moves. `first` and `second` are the states of its pair. `image` is overwritten.
     fn follow_on(
         &mut self,
         g: &Multigraph,
@@ -264,10 +274,10 @@ impl SplitSearch {
         requires first { first ≡ outer_of (field_of g.now table.now part) found.now / table.now.inner.states }
         requires second { second ≡ outer_of (field_of g.now table.now part) found.now % table.now.inner.states }
         requires letter_in { letter < g.now.letters }
-        requires searching { IsSearching (field_of g.now table.now part) (behind found.now (stand_of self.old)) }
+        requires searching { IsSearching (field_of g.now table.now part) (behind found.now (search_state_of self.old)) }
         requires wide { length image.old ≡ g.now.states }
-        ensures further { OnOk result (IsFurther (field_of g.now table.now part) found.now (stand_of self.old) (stand_of self.new)) }
-        ensures followed { OnOk result (IsFollowedOn (field_of g.now table.now part) found.now letter (stand_of self.new)) }
+        ensures further { OnOk result (IsFurther (field_of g.now table.now part) found.now (search_state_of self.old) (search_state_of self.new)) }
+        ensures followed { OnOk result (IsFollowedOn (field_of g.now table.now part) found.now letter (search_state_of self.new)) }
         ensures same_width { length image.new ≡ length image.old }
     {
         let firsts = table.inner.edges(first, letter);
@@ -279,10 +289,11 @@ impl SplitSearch {
         self.spread(g, table, part, found, letter, image, firsts, seconds)
     }
 
-    /// Follows what was found on all letters.
+    /// Follows `found` on all letters: notes the middle states to which its middle states move on a letter, beside each
+    /// pair to which its pair moves on the same letter. `image` is overwritten.
     ///
     /// # Errors
-    /// [`OutOfMemory`] if there was no memory for what is found.
+    /// [`OutOfMemory`] if there is not enough memory for what is found.
     pub(crate) fn follow(
         &mut self,
         g: &Multigraph,
@@ -293,10 +304,10 @@ impl SplitSearch {
     ) -> Result<(), OutOfMemory>
         requires table { IsTable g.now table.now }
         requires part_in { part < table.now.inner.states * table.now.inner.states }
-        requires searching { IsSearching (field_of g.now table.now part) (behind found.now (stand_of self.old)) }
+        requires searching { IsSearching (field_of g.now table.now part) (behind found.now (search_state_of self.old)) }
         requires wide { length image.old ≡ g.now.states }
-        ensures further { OnOk result (IsFurther (field_of g.now table.now part) found.now (stand_of self.old) (stand_of self.new)) }
-        ensures followed { OnOk result (IsFollowedUpTo (field_of g.now table.now part) found.now g.now.letters (stand_of self.new)) }
+        ensures further { OnOk result (IsFurther (field_of g.now table.now part) found.now (search_state_of self.old) (search_state_of self.new)) }
+        ensures followed { OnOk result (IsFollowedUpTo (field_of g.now table.now part) found.now g.now.letters (search_state_of self.new)) }
         ensures same_width { length image.new ≡ length image.old }
     {
         let count = u64::from(table.inner.states());
@@ -309,10 +320,11 @@ impl SplitSearch {
         Ok(())
     }
 
-    /// The letters of the steps from the start up to the one that found this.
+    /// Returns the word of `found`: the letters of the steps from the start up to the one that found it. It is empty if
+    /// the search keeps no steps.
     ///
     /// # Errors
-    /// [`OutOfMemory`] if there was no memory for the word.
+    /// [`OutOfMemory`] if there is not enough memory for the word.
     pub(crate) fn word_to(&self, alloc: Global, found: &Found) -> Result<Word, OutOfMemory>
         requires rooted { IsRooted self.now.steps.items }
         requires step_in { found.now.step ≤ length self.now.steps.items }

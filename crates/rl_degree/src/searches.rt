@@ -1,11 +1,11 @@
-//! The tests whether two states are a split, and the words of splits.
+//! Whether two states are a split, and the words of splits.
 
 ghost use Rattle.std.specs.Prelude.{◌≡◌, ◌<◌, ◌+◌, ◌*◌, ◌↔◌, true, replicate, IfOk, OnOk, IfSome, IfNone, IsTrue};
 ghost use Rattle.rl_graph.specs.Graph.{edges_of};
 ghost use Rattle.rl_graph.specs.Twins.{HasNoTwin, IsSplit};
 ghost use Rattle.rl_degree.specs.internal.Pairs.{IsTable};
 ghost use Rattle.rl_degree.specs.internal.Reached.{reaches as has_reached};
-ghost use Rattle.rl_degree.specs.internal.Rows.{stand_of, word_at, HasWord};
+ghost use Rattle.rl_degree.specs.internal.Rows.{search_state_of, word_at, HasWord};
 ghost use Rattle.rl_degree.specs.internal.Splits.{HasSplit, IsPairFor, AreMarks};
 
 use crate::pairs::{PairTable, pair_of, wanted};
@@ -15,7 +15,7 @@ use rl_lanes::BitRow;
 use rl_lists::{OutOfMemory, Word};
 use std::alloc::Global;
 
-/// Whether one state may reach another one, by the row of its component.
+/// Returns whether the state `from` may reach the state `to`. If the result is false, it doesn't.
 fn reaches(g: &Multigraph, table: &PairTable, from: u32, to: u32) -> bool
     requires table { IsTable g.now table.now }
     requires from_in { from < g.now.states }
@@ -26,7 +26,8 @@ fn reaches(g: &Multigraph, table: &PairTable, from: u32, to: u32) -> bool
     row.get(table.components.of(to) as usize)
 }
 
-/// The number of the pair of two states. Returns `None` only if they are not a split.
+/// Returns the number of the pair of two states in the product if they may be a split. If the result is `None`, they
+/// are not a split.
 fn pair_for(g: &Multigraph, table: &PairTable, from: u32, to: u32) -> Option<u64>
     requires table { IsTable g.now table.now }
     requires no_twin { HasNoTwin (edges_of g.now) }
@@ -55,18 +56,19 @@ fn pair_for(g: &Multigraph, table: &PairTable, from: u32, to: u32) -> Option<u64
     }
 }
 
-/// Where a search met what it looked for.
+/// A search that has met its goal, and what it found there.
 #[derive(Drop)]
 struct Goal {
     search: SplitSearch,
     found: Found,
 }
 
-/// Searches for the split of a wanted pair of states. Returns `None` exactly if the pair is not a split. A search that keeps its
-/// steps can tell the word of the split.
+/// Returns the goal of a search for a word of the split of the states `from` and `to`, or `None` if and only if they
+/// are not a split. `pair` is the number of their pair in the product. If `keeps` is true, the search keeps its steps,
+/// from which the word can be read.
 ///
 /// # Errors
-/// [`OutOfMemory`] if there was no memory for the search.
+/// [`OutOfMemory`] if there is not enough memory for the search.
 fn search_for(
     alloc: Global,
     g: &Multigraph,
@@ -81,8 +83,8 @@ fn search_for(
     requires from_in { from < g.now.states }
     requires to_in { to < g.now.states }
     requires pair { IsPairFor table.now from to pair }
-    ensures word { keeps ≡ true → IfOk result (λ o. IfSome o (λ k. IsSplit (edges_of g.now) from to (word_at (stand_of k.search).steps k.found.step))) }
-    ensures steps { IfOk result (λ o. IfSome o (λ k. HasWord (stand_of k.search).steps k.found.step)) }
+    ensures word { keeps ≡ true → IfOk result (λ o. IfSome o (λ k. IsSplit (edges_of g.now) from to (word_at (search_state_of k.search).steps k.found.step))) }
+    ensures steps { IfOk result (λ o. IfSome o (λ k. HasWord (search_state_of k.search).steps k.found.step)) }
     ensures found { IfOk result (λ o. IfSome o (λ _. HasSplit (edges_of g.now) from to)) }
     ensures none { IfOk result (λ o. IfNone o (HasSplit (edges_of g.now) from to → ⊥)) }
 {
@@ -102,10 +104,10 @@ fn search_for(
     Ok(None)
 }
 
-/// A word of the split of two states. Returns `None` exactly if they are not a split.
+/// Returns a word on which two states are a split, or `None` if and only if they are not a split.
 ///
 /// # Errors
-/// [`OutOfMemory`] if there was no memory for the search or the word.
+/// [`OutOfMemory`] if there is not enough memory for the search or the word.
 pub(crate) fn split_word(
     alloc: Global,
     g: &Multigraph,
@@ -129,10 +131,11 @@ pub(crate) fn split_word(
     }
 }
 
-/// No mark is known for any part yet.
+/// Returns a mark for each part of the product, none of which is known. The mark of a part says whether its pairs are
+/// splits.
 ///
 /// # Errors
-/// [`OutOfMemory`] if there was no memory for the marks.
+/// [`OutOfMemory`] if there is not enough memory for the marks.
 pub(crate) fn no_marks(alloc: Global, table: &PairTable) -> Result<Vec<Option<bool>>, OutOfMemory>
     ensures { IfOk result (λ v. v.items ≡ replicate (table.now.inner.states * table.now.inner.states) None) }
 {
@@ -141,10 +144,11 @@ pub(crate) fn no_marks(alloc: Global, table: &PairTable) -> Result<Vec<Option<bo
     Ok(marks)
 }
 
-/// Whether two states are a split. All pairs of a part agree, so a part is searched only if its mark isn't known yet.
+/// Returns whether two states are a split. Either all pairs of a part are splits or none, so a part is searched only if
+/// its mark in `marks` isn't known yet; the mark is then stored.
 ///
 /// # Errors
-/// [`OutOfMemory`] if there was no memory for the search.
+/// [`OutOfMemory`] if there is not enough memory for the search.
 pub(crate) fn is_split(
     g: &Multigraph,
     table: &PairTable,

@@ -20,7 +20,7 @@ use Rattle.rl_prio.specs.declared.error.PrioError.{PrioError}
 use Rattle.rl_prio.specs.declared.error.PrioError.TheVariants.{Letters, Moves, OutOfMemory}
 use Rattle.rl_prio.proofs.LikenessLemmas.{Finer-second}
 use Rattle.rl_equiv.specs.SetPairs.{joint_sets, joint_letters}
-use Rattle.rl_equiv.specs.Bases.{TellsNoMore, IsBase}
+use Rattle.rl_equiv.specs.Bases.{DistinguishesNoMore, IsBase}
 use Rattle.rl_equiv.specs.Joined.{StandTogether}
 use Rattle.rl_equiv.specs.Limits.{AreSmall, AreWithin, IsExceeded, same_error}
 
@@ -106,7 +106,7 @@ module _ (u : Universe) (s t : Tree) (sets : List (ℕ → Bool)) (same : sets �
     second_whole = second_whole;
   }
 
-module _ (u : Universe) (s t : Tree) (no : TellsNoMore s t) where
+module _ (u : Universe) (s t : Tree) (no : DistinguishesNoMore s t) where
   joint-alike : (c d : ℕ) → alike (joint_sets s t) c d ≡ alike (all_sets s) c d
   joint-alike c d = alike-append (all_sets s) (all_sets t) c d ∙ by (alike (all_sets s) c d) refl
     where

@@ -19,9 +19,6 @@ use Rattle.rl_equiv.specs.internal.Walks.{IsBegun, GoesOn}
 use Rattle.rl_equiv.proofs.ImageLaws.{first_count, same_count, pairs_of-trees, image-set}
 use Rattle.rl_equiv.proofs.ClosedLaws.{not-false, true-beq, first-proper, second-proper, ends-same, same-ends, next-in, in-next, closed-same}
 
-pub not-kept : (d : SetPairs) (relation : List SetPair) (p : SetPair) → d.proper p ≡ false → IsKept d relation p → ⊥
-not-kept d relation p e k = false≢true (sym e ∙ k.is_proper)
-
 -- The first set of a walk is that of the members.
 pub set-image : (a : Automaton) (w : Walk) (set : List ℕ) (letter : ℕ) → set_at w 0 ≡ set_of a set → all_proper a set ≡ true → image a (set_at w 0) letter ≡ image a set letter
 set-image a w set letter is proper = ap (λ s. image a s letter) is ∙ image-set a set letter proper

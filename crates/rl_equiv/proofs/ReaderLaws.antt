@@ -16,7 +16,7 @@ use Rattle.rl_syntax.specs.Tree.{Tree, places, guard_sets}
 use Rattle.rl_syntax.specs.Cost.{matched}
 use Rattle.rl_prio.specs.Items.{Item, test_at, pass, after, set_of as place_set, all_hold}
 use Rattle.rl_prio.specs.Letters.{all_sets, kinds, kind_of}
-use Rattle.rl_prio.specs.States.{place_states, state_of, accepting, dead, test_target, pass_target, moves_on, items_of, kind_before}
+use Rattle.rl_prio.specs.States.{place_states, state_of, accepting, dead, test_target, end_target, moves_on, items_of, kind_before}
 use Rattle.rl_prio.specs.Automaton.{Automaton, IsAutomaton, letters_count, accepting_state, dead_state, moves_at}
 use Rattle.rl_prio.specs.Walk.{word_at}
 use Rattle.rl_prio.specs.StandsFor.{StandsOver}
@@ -28,7 +28,7 @@ use Rattle.rl_sets.specs.Walk.{set_of}
 use Rattle.rl_sets.proofs.SetLemmas.{same_tests, filter_same, filter-below_suc}
 use Rattle.rl_sets.proofs.LiveLemmas.{found_in}
 use Rattle.rl_equiv.specs.SetPairs.{joint_sets, SetPairs, set_pairs}
-use Rattle.rl_equiv.specs.Languages.{IsIn, IsOfOne, IsTold}
+use Rattle.rl_equiv.specs.Languages.{IsIn, IsOfOne, IsTrueAnswer}
 use Rattle.rl_equiv.specs.Numbering.{IsAnswer}
 use Rattle.rl_equiv.specs.declared.sameness.Sameness.{Sameness}
 use Rattle.rl_equiv.specs.declared.sameness.Sameness.TheVariants.{Equal, Apart, Passed}
@@ -65,9 +65,9 @@ module _ (t : Tree) (n c : ℕ) (in_codes : c < n) (before : Option ℕ) where
       holds-append here (moves_on t AtEnd n before (Some c) l) (accepting t n)
       ∙ or_from (holds here (accepting t n)) (holds (moves_on t AtEnd n before (Some c) l) (accepting t n)) (one-free (all_hold gs before (Some c)) (test_target t n p (Some c)) (not_test p known.1)) (free-on l known.2)
   free-on (pass gs ∷ l) known =
-      let here = if all_hold gs before (Some c) then pass_target t AtEnd n (Some c) ∷ [] else [] in
+      let here = if all_hold gs before (Some c) then end_target t AtEnd n (Some c) ∷ [] else [] in
       holds-append here (moves_on t AtEnd n before (Some c) l) (accepting t n)
-      ∙ or_from (holds here (accepting t n)) (holds (moves_on t AtEnd n before (Some c) l) (accepting t n)) (one-free (all_hold gs before (Some c)) (pass_target t AtEnd n (Some c)) (λ e. omega (arith, e))) (free-on l known.1)
+      ∙ or_from (holds here (accepting t n)) (holds (moves_on t AtEnd n before (Some c) l) (accepting t n)) (one-free (all_hold gs before (Some c)) (end_target t AtEnd n (Some c)) (λ e. omega (arith, e))) (free-on l known.1)
 
 items-known : (t : Tree) (n q : ℕ) → ItemsKnown (guard_sets t) (places t) (items_of t n q)
 items-known t n zero = first-known (guard_sets t) (places t) t 0 (omega arith) (Finer-itself (guard_sets t))
@@ -194,12 +194,12 @@ module _ (u : Universe) (s t : Tree) (a b : Automaton) (st : StandTogether u s t
       let second = matched-refuses u t b (joint_sets s t) st.second_whole st.second_stands (Finer-second (all_sets s) (all_sets t)) st.second_codes w text in
       one-of u s t w text (λ e. i.apart (ap (refuses a (0 ∷ [])) (sym first_word) ∙ first ∙ e ∙ sym second ∙ ap (refuses b (0 ∷ [])) second_word))
 
-  pub answer-told : (limit : ℕ) (found : Sameness) → IsAnswer (pairs_of a b) limit found → TellsApart a b found → IsAnswer (set_pairs u s t) limit found × IsTold u s t found
+  pub answer-told : (limit : ℕ) (found : Sameness) → IsAnswer (pairs_of a b) limit found → TellsApart a b found → IsAnswer (set_pairs u s t) limit found × IsTrueAnswer u s t found
   answer-told limit found answer apart =
       let here : IsAnswer (set_pairs u s t) limit found = subst (λ (d : SetPairs). IsAnswer d limit found) (pairs_of-trees u s t a b st) answer in
       (here, by found here apart)
     where
-      by : (x : Sameness) → IsAnswer (set_pairs u s t) limit x → TellsApart a b x → IsTold u s t x
+      by : (x : Sameness) → IsAnswer (set_pairs u s t) limit x → TellsApart a b x → IsTrueAnswer u s t x
       by (Equal relation) h k = closed-same u s t a b relation st h.closed
       by (Apart text) h k = apart-told text k
       by Passed h k = tt

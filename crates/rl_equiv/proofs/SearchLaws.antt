@@ -2,7 +2,7 @@
 use Rattle.std.proofs.Common.{◌≡◌, ◌∙◌, ℕ, zero, suc, ◌+◌, ◌<◌, ◌≤◌, ◌⊎◌, inl, inr, List, [], ◌∷◌, ◌++◌, length, get_or, map, take, slice_get, Some, Result, Ok, Err, IfOk, Bool, true, false, cond, nat_lt, refl, sym, ap, ap₂, subst, arith, append_assoc}
 use Rattle.std.specs.List.{list_any}
 use Rattle.std.proofs.lemmas.Bool.{cases_lt, cond-true, cond-false, lt-ltb, le-ltb}
-use Rattle.std.proofs.lemmas.List.{length-append, length-map, map-append, append-nil, get_or_append_left, get_or-map, take_all, take_more}
+use Rattle.std.proofs.lemmas.List.{length-append, length-map, map-append, append-nil, get_or_append_left, get_or-map, take_more}
 use Rattle.std.proofs.lemmas.Option.{slice_get-get_or, get_or_from_slice_get}
 use Rattle.rl_syntax.specs.declared.limits.TheConstants.{MOST_SET_PAIRS}
 use Rattle.rl_prio.specs.Automaton.{Automaton, letters_count}
@@ -255,6 +255,3 @@ relation-more s relation place key x y is lt read e f =
     let p : record { first = x; second = y } ≡ pair_at s place = λ i. record { first = (e ∙ ap (λ (q : PairKey). set_at s.first q.first) (sym k)) i; second = (f ∙ ap (λ (q : PairKey). set_at s.second q.second) (sym k)) i } in
     ap₂ (λ (l : List SetPair) (q : SetPair). l ++ q ∷ []) is (p ∙ sym (pairs-get s place lt))
     ∙ sym (take_more (pairs_in s) place first_pair (omega (arith, pairs-length s)))
-
-pub relation-all : (s : State) (relation : List SetPair) (place : ℕ) → relation ≡ take place (pairs_in s) → length s.keys ≤ place → relation ≡ pairs_in s
-relation-all s relation place is le = is ∙ take_all place (pairs_in s) (omega (arith, pairs-length s))

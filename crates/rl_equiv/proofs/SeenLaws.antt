@@ -106,13 +106,6 @@ apart-last limit s seen longer ends before now pushed =
       last = inr (λ k e. ap (λ (l : List Ends). is_apart (ends_in l k)) pushed ∙ ap is_apart (get_or_push seen ends no_ends k (omega (arith, count, e))) ∙ now);
     }
 
-pub apart-none : (limit : ℕ) (s : State) (seen : List Ends) → ((k : ℕ) → k < length seen → is_apart (ends_in seen k) ≡ false) → IsThrough limit s seen → IsSeenApart limit s seen
-apart-none limit s seen before through = record { before = λ k lt. before k (omega arith); last = inl through }
-
-pub seen-some : (a b : Automaton) (limit : ℕ) (s : State) (seen : List Ends) → IsSeen a b limit s seen → IsThrough limit s seen → 0 < length seen
-seen-some a b limit s seen r (inl h) = omega (arith, h, r.limit_is, r.search.some_limit)
-seen-some a b limit s seen r (inr h) = omega (arith, h, r.search.some)
-
 -- ---- what was seen of the set pairs
 
 module _ (a b : Automaton) (limit : ℕ) (s : State) (seen : List Ends) (r : IsSeen a b limit s seen) where

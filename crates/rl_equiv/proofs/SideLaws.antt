@@ -123,13 +123,3 @@ side-kept a limit count w side = record {
   has_none = side.has_none;
   has_end = side.has_end;
 }
-
--- A walk that was kept has room again, unless it has grown too large.
-pub side-again : (a : Automaton) (w : Walk) → length w.sets ≤ 30000 → IsSide a 0 1 w → IsSide a MOST_SET_PAIRS 0 w
-side-again a w few side = record {
-  made = side.made;
-  limit_is = side.limit_is;
-  room = omega (arith, few);
-  has_none = side.has_none;
-  has_end = side.has_end;
-}

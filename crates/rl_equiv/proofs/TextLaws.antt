@@ -17,14 +17,6 @@ append-nil' : (l : List ℕ) → l ++ [] ≡ l
 append-nil' [] = refl
 append-nil' (x ∷ l) = ap (λ (m : List ℕ). x ∷ m) (append-nil' l)
 
-pub back-start : (a : Automaton) (ways : List Way) (place : ℕ) (back : List ℕ) → place < length ways → back ≡ [] → IsBack a ways place place back
-back-start a ways place back lt e = record {
-  at_in = lt;
-  rest = [];
-  spelled = e;
-  leads = λ word l. subst (λ (w : List ℕ). Leads ways place w) (sym (append-nil' word)) l;
-}
-
 pub back-more : (a : Automaton) (ways : List Way) (place at : ℕ) (back : List ℕ) (way : Way) (code : ℕ) (longer : List ℕ) → IsBack a ways place at back → 0 < at → way ≡ get_or ways at way → way.parent < at
     → code ≡ sample_of a way.letter → longer ≡ back ++ code ∷ [] → IsBack a ways place way.parent longer
 back-more a ways place at back way code longer i some read less e f = record {

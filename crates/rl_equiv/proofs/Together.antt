@@ -15,7 +15,7 @@ use Rattle.rl_syntax.specs.declared.re.Ending.TheVariants.{AtEnd}
 use Rattle.rl_syntax.specs.Tree.{Tree, places, guard_sets}
 use Rattle.rl_prio.specs.Items.{Item, test_at, pass, after, set_of, all_hold}
 use Rattle.rl_prio.specs.Letters.{kinds, kind_of}
-use Rattle.rl_prio.specs.States.{place_states, state_of, accepting, dead, state_count, test_target, ends_here, pass_target, moves_on, items_of, kind_before, moves_over}
+use Rattle.rl_prio.specs.States.{place_states, state_of, accepting, dead, state_count, test_target, ends_here, end_target, moves_on, items_of, kind_before, moves_over}
 use Rattle.rl_prio.specs.Automaton.{Automaton, IsAutomaton}
 use Rattle.rl_prio.specs.StandsFor.{StandsOver}
 use Rattle.rl_prio.proofs.AutomatonLemmas.{automaton_of, moves_at-inside}
@@ -155,9 +155,9 @@ module _ (sets : List (ℕ → Bool)) (n : ℕ) where
     moves-below l before (pass gs ∷ items) known =
         let o = slice_get (classes sets n) l in
         let P : ℕ → Type 0 = λ x. x < state_count t n in
-        All-append P (if all_hold gs before o then pass_target t AtEnd n o ∷ [] else []) (moves_on t AtEnd n before o items)
-        (cond_both (all_hold gs before o) (pass_target t AtEnd n o ∷ []) [] (All P)
-        (λ _. All-cons P (pass_target t AtEnd n o) [] (cond_both (ends_here AtEnd o) (accepting t n) (dead t n) P (λ _. omega arith) (λ _. omega arith)) (All-nil P)) (λ _. All-nil P))
+        All-append P (if all_hold gs before o then end_target t AtEnd n o ∷ [] else []) (moves_on t AtEnd n before o items)
+        (cond_both (all_hold gs before o) (end_target t AtEnd n o ∷ []) [] (All P)
+        (λ _. All-cons P (end_target t AtEnd n o) [] (cond_both (ends_here AtEnd o) (accepting t n) (dead t n) P (λ _. omega arith) (λ _. omega arith)) (All-nil P)) (λ _. All-nil P))
         (moves-below l before items known.1)
 
     stopped : (r l : ℕ) → place_states t n ≤ r → moves_over sets t AtEnd n (suc r) l ≡ []

@@ -16,7 +16,7 @@ use Rattle.rl_equiv.specs.SetPairs.{joint_sets, first_pair, SetPairs, set_pairs,
 use Rattle.rl_equiv.specs.Numbering.{found_after, Reached, pairs_reached, reached_after, first_reached, Reads, IsReached}
 use Rattle.rl_equiv.specs.Joined.{StandTogether}
 use Rattle.rl_equiv.specs.Regions.{word_where, IsSpelled, IsTextOf, AreRegions}
-use Rattle.rl_equiv.specs.Told.{IsOfRegion, AreTold}
+use Rattle.rl_equiv.specs.Comparison.{IsOfRegion, IsTrueComparison}
 use Rattle.rl_equiv.proofs.WordLaws.{reached-found, reached-reads, all-found}
 use Rattle.rl_equiv.proofs.ReadLaws.{text-leads, text-told}
 
@@ -101,7 +101,7 @@ module _ (u : Universe) (s t : Tree) (a b : Automaton) (st : StandTogether u s t
       ]
 
   -- The texts of the regions say which texts the trees match.
-  pub regions-told : (c : Compared) → AreRegions u s t limit c → AreTold u (matched s AtEnd) (matched t AtEnd) c
+  pub regions-told : (c : Compared) → AreRegions u s t limit c → IsTrueComparison u (matched s AtEnd) (matched t AtEnd) c
   regions-told c r =
       let few = few-from c.more (length (found_after (set_pairs u s t) limit)) r.more in
       record {

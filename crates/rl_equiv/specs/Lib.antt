@@ -6,5 +6,5 @@ pub mod Joined
 pub mod Bases
 pub mod Sides
 pub mod Regions
-pub mod Told
+pub mod Comparison
 pub mod internal

@@ -1,4 +1,8 @@
-//! Checks whether a relation is closed.
+//! Checks whether a relation is closed. A set pair is two sets of states, one of each of two automata, to which the same word
+//! leads; the letters of the word are those of both trees. It shows a difference if the end letter, which comes after the last
+//! letter, leads exactly one of its sets to the accepting state. The first set pair has the start, state 0, of each automaton,
+//! and the next ones of a set pair are the images of its two sets, one pair for each letter. A relation is a list of set
+//! pairs.
 
 ghost use Rattle.std.specs.Prelude.{◌≡◌, ◌↔◌, ℕ, ◌<◌, ◌≤◌, true, IsTrue, length, IfOk, Contains};
 ghost use Rattle.rl_syntax.specs.Tree.{tree_of, IsOver};
@@ -23,7 +27,7 @@ use rl_sets::SetWalk;
 use rl_syntax::Re;
 use std::alloc::Global;
 
-/// Whether both sets of a set pair rise and have no other states than the start and those of places.
+/// Returns whether both sets of a set pair rise and have no other states than the start and those of places.
 fn is_proper(a: &Prio, b: &Prio, pair: &SetPair) -> bool
     ensures { result ≡ (pairs_of a.now b.now).proper pair.now }
 {
@@ -32,7 +36,7 @@ fn is_proper(a: &Prio, b: &Prio, pair: &SetPair) -> bool
     first && second
 }
 
-/// Whether the first sets of two walks, as a set pair, show no difference and have their next set pairs in the index.
+/// Returns whether the set pair of the first sets of two walks shows no difference and has its next set pairs in the index.
 fn keeps_sets(
     a: &Prio,
     b: &Prio,
@@ -65,7 +69,7 @@ fn keeps_sets(
     Ok(true)
 }
 
-/// Whether a set pair shows no difference and has its next ones in the index. The walk starts from its first set.
+/// Returns whether a set pair shows no difference and has its next ones in the index. The walk starts from its first set.
 fn keeps_beside(
     alloc: Global,
     a: &Prio,
@@ -87,7 +91,7 @@ fn keeps_beside(
     kept
 }
 
-/// Whether a set pair is proper, shows no difference and has its next ones in the index.
+/// Returns whether a set pair is proper, shows no difference and has its next ones in the index.
 fn keeps(
     alloc: Global,
     a: &Prio,
@@ -107,7 +111,7 @@ fn keeps(
     kept
 }
 
-/// Whether the pair of the sets of both starts is in the index.
+/// Returns whether the pair of the sets of both starts is in the index.
 fn has_start(alloc: Global, index: &Index) -> Result<bool, OutOfMemory>
     ensures { IfOk result (λ has. IsTrue has ↔ Contains index.now first_pair) }
 {
@@ -116,7 +120,7 @@ fn has_start(alloc: Global, index: &Index) -> Result<bool, OutOfMemory>
     Ok(index.has(first, second))
 }
 
-/// Whether a list of set pairs of two automata is closed. The index is that of the list.
+/// Returns whether a list of set pairs of two automata is closed. The index is that of the list.
 fn is_closed_in(
     alloc: Global,
     a: &Prio,
@@ -140,7 +144,7 @@ fn is_closed_in(
     Ok(true)
 }
 
-/// Whether a list of set pairs of two automata is closed.
+/// Returns whether a list of set pairs of two automata is closed.
 fn is_closed(alloc: Global, a: &Prio, b: &Prio, relation: &[SetPair]) -> Result<bool, OutOfMemory>
     requires { ShareLetters a.now b.now }
     ensures { IfOk result (λ ok. IsTrue ok ↔ IsClosed (pairs_of a.now b.now) relation.now) }
@@ -151,13 +155,14 @@ fn is_closed(alloc: Global, a: &Prio, b: &Prio, relation: &[SetPair]) -> Result<
     closed
 }
 
-/// Whether two trees, each matched whole, are within the limits on sizes, letters and moves, and a relation of their
-/// set pairs is closed, as a bisimulation is. It has to have the pair of the starts and, for each of its set pairs, the
-/// next one on each letter. None of its set pairs may show a difference. The sets of each have to rise, and to have
-/// only the start and states of places. If all of this is so, both trees span the same texts of the universe.
+/// Returns whether two trees, each matched whole, are within the limits on nodes, letters and items, and a relation of their
+/// set pairs is closed, as a bisimulation is: it has the first set pair and, for each of its set pairs, the next one on each
+/// letter; none of its set pairs shows a difference; and each of its sets is a strictly increasing list of the start and
+/// states of places. If so, both trees span the same whole texts of the universe. The sets of both trees must have only codes
+/// of the universe `u`.
 ///
 /// # Errors
-/// [`OutOfMemory`] if there was no memory for the automata or the sets.
+/// [`OutOfMemory`] if there is not enough memory for the automata or the sets.
 pub fn check(alloc: Global, a: &Re, b: &Re, u: Universe, r: &Relation) -> Result<bool, OutOfMemory>
     requires first_inside { IsOver u (tree_of a.now) }
     requires second_inside { IsOver u (tree_of b.now) }

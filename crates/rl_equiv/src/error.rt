@@ -1,18 +1,19 @@
-//! Why two trees aren't compared.
+//! The reasons why two trees aren't compared. Letters are classes of codes that the sets of the trees don't tell apart; an
+//! item list is the list of what a matcher can try next at one point of a tree.
 
 ghost use Rattle.std.specs.Prelude.{◌≡◌};
 
 use rl_lists::OutOfMemory;
 
-/// Why two trees aren't compared.
+/// The reason why two trees aren't compared.
 #[derive(Clone, Copy, Debug, PartialEq, Eq)]
 pub enum SameError {
-    /// One of the trees has more than [`MOST_NODES`](rl_syntax::MOST_NODES).
+    /// One of the trees has more than [`MOST_NODES`](rl_syntax::MOST_NODES) nodes.
     Size,
-    /// The sizes are within their limit, but the sets of both trees tell more than
-    /// [`MOST_LETTERS`](rl_syntax::MOST_LETTERS) letters apart.
+    /// The nodes are within their limit, but the sets of both trees tell more than [`MOST_LETTERS`](rl_syntax::MOST_LETTERS)
+    /// letters apart.
     Letters,
-    /// Sizes and letters are within their limits, but one of the trees has a list of more than
+    /// Nodes and letters are within their limits, but one of the trees has an item list of more than
     /// [`MOST_MOVES`](rl_syntax::MOST_MOVES) items.
     Moves,
     /// Out of memory.

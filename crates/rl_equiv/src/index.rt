@@ -13,13 +13,13 @@ use std::marker::Model;
 /// The two sets of a set pair.
 #[derive(Debug, Drop, PartialEq, Eq, Hash)]
 pub(crate) struct Sets {
-    /// Those of the first set.
+    /// The members of the first set.
     pub first: Vec<u32>,
-    /// Those of the second set.
+    /// The members of the second set.
     pub second: Vec<u32>,
 }
 
-/// Set pairs, each once. Contracts see the list of them.
+/// Set pairs, each once. For contracts it is the list of them.
 #[derive(Drop)]
 pub(crate) struct Index {
     alloc: Global,
@@ -37,7 +37,7 @@ impl Model for Index {
 }
 
 impl Index {
-    /// Makes the index of a relation.
+    /// Returns an index of the set pairs of a relation.
     pub(crate) fn of(alloc: Global, relation: &[SetPair]) -> Result<Index, OutOfMemory>
         ensures { IfOk result (λ index. HoldTheSame index relation.now) }
     {
@@ -51,7 +51,7 @@ impl Index {
         Ok(index)
     }
 
-    /// Makes an empty index.
+    /// Returns an empty index.
     fn new(alloc: Global) -> Index
         ensures { result ≡ [] }
     {
@@ -71,7 +71,7 @@ impl Index {
         Ok(())
     }
 
-    /// Whether the index has the pair of two sets.
+    /// Returns whether the index has the pair of two sets.
     pub(crate) fn has(&self, first: Members, second: Members) -> bool
         ensures { IsTrue result ↔ Contains self.now (record { first = first; second = second }) }
     {

@@ -38,7 +38,7 @@ impl From<PrioError> for SameError {
     }
 }
 
-/// Collects the sets that tell the codes of two trees apart.
+/// Returns the sets that tell the codes of two trees apart: those of the trees and those that their guards use.
 ///
 /// # Errors
 /// [`OutOfMemory`] if there was no memory for them.
@@ -55,7 +55,7 @@ fn letter_sets(alloc: Global, a: &Re, b: &Re) -> Result<Vec<CodeSet>, OutOfMemor
 }
 
 impl Joint {
-    /// Builds the automata of two trees, if no limit is exceeded.
+    /// Returns the automata of two trees, over the letters of both, if no limit is exceeded.
     ///
     /// # Errors
     /// [`SameError::Size`], [`SameError::Letters`] or [`SameError::Moves`] for the first limit that is exceeded, and

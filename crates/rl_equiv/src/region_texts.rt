@@ -1,4 +1,7 @@
-//! Finds a text of each region of two trees.
+//! Finds a text of each region of two trees. A set pair is two sets of states, one of each of two automata, to which the same
+//! word leads; the letters of the word are those of both trees. It shows a difference if the end letter, which comes after the
+//! last letter, leads exactly one of its sets to the accepting state. It is in the region of the first tree, of the second or
+//! of both if the end letter leads only its first set, only its second set or both sets to the accepting state.
 
 ghost use Rattle.std.specs.Prelude.{◌≡◌, ◌≤◌, ◌∷◌, [], ◌&&◌, IfOk, IfErr, OnOk};
 ghost use Rattle.std.proofs.Math.Bool.{beq};
@@ -9,7 +12,7 @@ ghost use Rattle.rl_syntax.specs.declared.limits.TheConstants.{MOST_SET_PAIRS};
 ghost use Rattle.rl_equiv.specs.Limits.{AreWithin, IsExceeded};
 ghost use Rattle.rl_equiv.specs.Joined.{StandTogether};
 ghost use Rattle.rl_equiv.specs.Regions.{AreRegions};
-ghost use Rattle.rl_equiv.specs.Told.{AreTold};
+ghost use Rattle.rl_equiv.specs.Comparison.{IsTrueComparison};
 ghost use Rattle.rl_equiv.specs.SetPairs.{first_pair};
 ghost use Rattle.rl_equiv.specs.internal.Searching.{AreReaders, state_of, pairs_in, IsSearch, IsSeen, IsThrough, IsFirstText};
 
@@ -23,14 +26,15 @@ use rl_ranges::Universe;
 use rl_syntax::Re;
 use std::alloc::Global;
 
-/// Whether the ends are these.
+/// Returns whether the ends are `first` and `second`.
 fn are(ends: Ends, first: bool, second: bool) -> bool
     ensures { result ≡ (beq ends.first first && beq ends.second second) }
 {
     ends.first == first && ends.second == second
 }
 
-/// The text of the first set pair with these ends, if one was seen.
+/// Returns the text of the first set pair with the ends `first` and `second` among those that were looked at, or `None` if
+/// there is none.
 fn text_of(
     alloc: Global,
     a: &Prio,
@@ -53,7 +57,7 @@ fn text_of(
     Ok(None)
 }
 
-/// The texts of the regions of two automata, by the set pairs that a search has seen.
+/// Returns the texts of the regions of two automata, by the set pairs that a search has looked at.
 fn texts_of(
     alloc: Global,
     a: &Prio,
@@ -79,7 +83,7 @@ fn texts_of(
     })
 }
 
-/// The texts of the regions of two automata. The search has just begun, and is run here.
+/// Runs a search that has just begun, and returns the texts of the regions of its two automata.
 fn texts_by(
     alloc: Global,
     a: &Prio,
@@ -97,7 +101,7 @@ fn texts_by(
     texts_of(alloc, a, b, search, &seen, limit)
 }
 
-/// The texts of the regions of two automata, by their first set pairs.
+/// Returns the texts of the regions of two automata, by their first `limit` set pairs.
 fn regions_of(alloc: Global, a: &Prio, b: &Prio, limit: u32) -> Result<Compared, OutOfMemory>
     requires readers { AreReaders a.now b.now }
     requires some { 1 ≤ limit }
@@ -110,12 +114,17 @@ fn regions_of(alloc: Global, a: &Prio, b: &Prio, limit: u32) -> Result<Compared,
     texts
 }
 
-/// The texts of the regions of two trees, each matched whole: one that only the first tree spans, one that only the
-/// second spans and one that both span, and whether more set pairs are reached. It looks at the first `limit` set
-/// pairs, breadth first.
+/// Returns a text of each region of two trees, each matched whole: one that only the first tree spans, one that only the
+/// second spans and one that both span. The text of a region is `None` if none of the first `limit` set pairs, in
+/// breadth-first order, is in the region. The result also says whether more than `limit` set pairs are reached; if not, a
+/// region without a text is empty. `limit` must be from 1 to 20,000, and the sets of both trees must have only codes of the
+/// universe `u`.
 ///
 /// # Errors
-/// Those of [`same`](crate::same).
+/// [`SameError::Size`] if one of the trees has more than [`MOST_NODES`](rl_syntax::MOST_NODES) nodes; otherwise
+/// [`SameError::Letters`] if their sets tell more than [`MOST_LETTERS`](rl_syntax::MOST_LETTERS) letters apart; otherwise
+/// [`SameError::Moves`] if one of the trees has an item list of more than [`MOST_MOVES`](rl_syntax::MOST_MOVES) items.
+/// [`SameError::OutOfMemory`] if there is not enough memory.
 pub fn regions(
     alloc: Global,
     a: &Re,
@@ -130,7 +139,7 @@ pub fn regions(
     ensures within { OnOk result (AreWithin u (tree_of a.now) (tree_of b.now)) }
     ensures exceeded { IfErr result (IsExceeded u (tree_of a.now) (tree_of b.now)) }
     ensures regions { IfOk result (AreRegions u (tree_of a.now) (tree_of b.now) limit) }
-    ensures told { IfOk result (AreTold u (matched (tree_of a.now) AtEnd) (matched (tree_of b.now) AtEnd)) }
+    ensures told { IfOk result (IsTrueComparison u (matched (tree_of a.now) AtEnd) (matched (tree_of b.now) AtEnd)) }
 {
     let joint = Joint::new(alloc, a, b, u)?;
     let Ok(texts) = regions_of(alloc, &joint.first, &joint.second, limit) else {

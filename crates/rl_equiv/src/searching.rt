@@ -40,9 +40,9 @@ pub(crate) struct Way {
 /// Which of the two sets of a set pair the end letter leads to the accepting state.
 #[derive(Clone, Copy, Debug, PartialEq, Eq)]
 pub(crate) struct Ends {
-    /// Whether it leads the first set there.
+    /// Whether the end letter leads the first set to the accepting state.
     pub first: bool,
-    /// Whether it leads the second set there.
+    /// Whether the end letter leads the second set to the accepting state.
     pub second: bool,
 }
 
@@ -62,14 +62,15 @@ pub(crate) struct PairSearch {
     pub ways: Vec<Way>,
 }
 
-/// Whether a search ends at a set pair: it isn't asked to look at all, and this one shows a difference.
+/// Returns whether a search ends at a set pair: it isn't asked to look at all, and this one shows a difference.
 fn stops(all: bool, ends: Ends) -> bool
     ensures { result ≡ (not all && is_apart ends) }
 {
     !all && ends.first != ends.second
 }
 
-/// The set pairs found at the beginning: only that of the two starts.
+/// Returns the set pairs that are found at the beginning, and how: only that of the two starts, whose sets have the given
+/// numbers.
 fn first_found(
     alloc: Global,
     start: u32,
@@ -93,7 +94,7 @@ fn first_found(
 }
 
 impl PairSearch {
-    /// Begins a search, with the set pair of the starts.
+    /// Returns a search that has found only the set pair of the start states. `limit` must be from 1 to 20,000.
     pub(crate) fn new(
         alloc: Global,
         a: &Prio,
@@ -111,7 +112,8 @@ impl PairSearch {
         PairSearch::go_on(alloc, a, b, walk, limit)
     }
 
-    /// Begins a search that goes on with a walk over the sets of the first automaton, and with the images that it has.
+    /// Returns a search that has found only the set pair of the start states. It goes on with `walk`, a walk over the sets of
+    /// the first automaton, and the images that this walk has. `limit` must be from 1 to 20,000.
     pub(crate) fn go_on(
         alloc: Global,
         a: &Prio,
@@ -135,7 +137,8 @@ impl PairSearch {
         PairSearch::begun(alloc, first, start, second, other_start, limit)
     }
 
-    /// Begins a search over these walks. The numbers are those of the sets of the starts.
+    /// Returns a search over these walks that has found the set pair of the starts; `start` and `other_start` are the numbers
+    /// of their sets.
     fn begun(
         alloc: Global,
         first: SetWalk,
@@ -166,7 +169,7 @@ impl PairSearch {
         })
     }
 
-    /// Gives back the walk over the sets of the first automaton, with the images that the search has computed.
+    /// Returns the walk over the sets of the first automaton, with the images that the search has computed.
     pub(crate) fn into_first(self) -> SetWalk
         ensures { result ≡ self.first }
     {
@@ -175,7 +178,7 @@ impl PairSearch {
         first
     }
 
-    /// The ends of the set pair at a place.
+    /// Returns the ends of the set pair at a place.
     fn ends(&mut self, a: &Prio, b: &Prio, place: usize) -> Result<Ends, OutOfMemory>
         requires readers { AreReaders a.now b.now }
         requires search { IsSearch a.now b.now (state_of self.old) }
@@ -192,7 +195,8 @@ impl PairSearch {
         Ok(Ends { first, second })
     }
 
-    /// Appends the set pair that a letter leads to from the one at a place, unless it was found already.
+    /// Appends the set pair to which a letter leads from the one at a place, unless it was found already or there are more
+    /// than the limit.
     fn visit(&mut self, a: &Prio, b: &Prio, place: usize, letter: u32) -> Result<(), OutOfMemory>
         requires readers { AreReaders a.now b.now }
         requires search { IsSearch a.now b.now (state_of self.old) }
@@ -232,8 +236,8 @@ impl PairSearch {
         Ok(())
     }
 
-    /// Looks at the first `limit` set pairs, one after another. Unless `all` is true, it stops at the first one that
-    /// shows a difference.
+    /// Looks at the first `limit` set pairs, one after another, and returns their ends. Unless `all` is true, it stops after
+    /// the first one that shows a difference.
     pub(crate) fn look(
         &mut self,
         alloc: Global,
@@ -265,7 +269,7 @@ impl PairSearch {
         Ok(seen)
     }
 
-    /// A text that leads to the set pair at a place.
+    /// Returns the text of the sample codes of the letters by which the set pair at a place was found.
     pub(crate) fn text_to(
         &self,
         alloc: Global,
@@ -288,7 +292,7 @@ impl PairSearch {
         Ok(Items::from_vec(back))
     }
 
-    /// The set pairs that were found.
+    /// Returns the set pairs that were found.
     fn relation(&self, alloc: Global) -> Result<Relation, OutOfMemory>
         requires first_in { (k : ℕ) → k < length (state_of self.now).keys → (key_at (state_of self.now) k).first < length (state_of self.now).first.sets }
         requires second_in { (k : ℕ) → k < length (state_of self.now).keys → (key_at (state_of self.now) k).second < length (state_of self.now).second.sets }
@@ -304,7 +308,8 @@ impl PairSearch {
         Ok(relation)
     }
 
-    /// Runs the search, and says what the first set pairs show.
+    /// Runs a search that has found only the set pair of the start states, and returns what its first set pairs, up to its
+    /// limit, show.
     pub(crate) fn run(&mut self, alloc: Global, a: &Prio, b: &Prio) -> Result<Sameness, OutOfMemory>
         requires readers { AreReaders a.now b.now }
         requires search { IsSearch a.now b.now (state_of self.old) }

@@ -14,13 +14,14 @@ use rl_prio::Prio;
 use rl_sets::{SetWalk, SetsError};
 use std::alloc::Global;
 
-/// The most sets that a walk may have. A search adds at most one more than [`MOST_SET_PAIRS`](rl_syntax::MOST_SET_PAIRS).
+/// The most sets that a walk may have. A search goes on with a walk of at most [`MOST_KEPT`] sets, and adds at most one more
+/// than [`MOST_SET_PAIRS`](rl_syntax::MOST_SET_PAIRS).
 const MOST_SETS: u32 = 60_000;
 
-/// The most sets of a walk that goes on with another search.
+/// The most sets of a walk with which another search may go on.
 const MOST_KEPT: u32 = 30_000;
 
-/// Puts the set of these states into the walk, and returns its number.
+/// Puts the set of these states into the walk unless it has it, and returns its number.
 fn put(walk: &mut SetWalk, a: &Prio, members: &Vec<u32>) -> Result<u32, OutOfMemory>
     requires made { IsMadeFor walk.old a.now }
     requires states { All (λ q. (q < a.now.states) × (q ≢ dead_state a.now)) members.now.items }
@@ -34,7 +35,7 @@ fn put(walk: &mut SetWalk, a: &Prio, members: &Vec<u32>) -> Result<u32, OutOfMem
     }
 }
 
-/// Puts the set of one state into the walk, and returns its number.
+/// Puts the set of one state into the walk unless it has it, and returns its number.
 fn put_one(alloc: Global, walk: &mut SetWalk, a: &Prio, state: u32) -> Result<u32, OutOfMemory>
     requires made { IsMadeFor walk.old a.now }
     requires state_in { state < a.now.states }
@@ -46,7 +47,7 @@ fn put_one(alloc: Global, walk: &mut SetWalk, a: &Prio, state: u32) -> Result<u3
     put(walk, a, &members)
 }
 
-/// Puts the two sets that the end letter may lead to into an empty walk.
+/// Puts the two sets to which the end letter may lead into an empty walk: the empty set and the set of the accepting state.
 fn put_ends(alloc: Global, walk: &mut SetWalk, a: &Prio) -> Result<(), OutOfMemory>
     requires made { IsMadeFor walk.old a.now }
     requires reads { IsReader a.now }
@@ -60,7 +61,7 @@ fn put_ends(alloc: Global, walk: &mut SetWalk, a: &Prio) -> Result<(), OutOfMemo
     Ok(())
 }
 
-/// Begins a walk, with the two sets that the end letter may lead to.
+/// Returns a new walk with the two sets to which the end letter may lead.
 pub(crate) fn begin_side(alloc: Global, a: &Prio) -> Result<SetWalk, OutOfMemory>
     requires { IsReader a.now }
     ensures { IfOk result (IsSide a.now MOST_SET_PAIRS 0) }
@@ -73,7 +74,7 @@ pub(crate) fn begin_side(alloc: Global, a: &Prio) -> Result<SetWalk, OutOfMemory
     Ok(walk)
 }
 
-/// The walk that was kept, with the images that it has. If none was kept, or it has grown too large, a new one.
+/// Returns the walk that was kept, with its images, or a new one if none was kept or it has more than [`MOST_KEPT`] sets.
 pub(crate) fn kept_side(
     alloc: Global,
     a: &Prio,
@@ -93,7 +94,7 @@ pub(crate) fn kept_side(
     }
 }
 
-/// Puts the set of the start into the walk of a search that begins, and returns its number as well.
+/// Puts the set of the start into the walk of a search that begins, and returns the walk and the number of that set.
 pub(crate) fn start_side(
     alloc: Global,
     a: &Prio,
@@ -112,7 +113,7 @@ pub(crate) fn start_side(
     Ok((walk, start))
 }
 
-/// Begins a new walk for a search, with the set of the start, and returns the number of that set as well.
+/// Returns a new walk for a search, with the set of the start, and the number of that set.
 pub(crate) fn fresh_side(alloc: Global, a: &Prio) -> Result<(SetWalk, u32), OutOfMemory>
     requires { IsReader a.now }
     ensures side { IfOk result (λ r. IsSide a.now MOST_SET_PAIRS 1 r.0) }
@@ -123,7 +124,8 @@ pub(crate) fn fresh_side(alloc: Global, a: &Prio) -> Result<(SetWalk, u32), OutO
     start_side(alloc, a, walk)
 }
 
-/// The number of the image of a set on a letter.
+/// Returns the number of the image of a set of the walk on a letter or on the end letter. Adds the image to the walk if the
+/// walk doesn't have it; the walk must have room for one more set.
 pub(crate) fn step_to(
     walk: &mut SetWalk,
     a: &Prio,
@@ -143,7 +145,7 @@ pub(crate) fn step_to(
     }
 }
 
-/// Whether the end letter leads a set to the accepting state. The image is one of the two sets that the walk began
+/// Returns whether the end letter leads a set to the accepting state. The image is one of the two sets that the walk began
 /// with.
 pub(crate) fn ends_at(walk: &mut SetWalk, a: &Prio, set: u32) -> Result<bool, OutOfMemory>
     requires made { IsMadeFor walk.old a.now }

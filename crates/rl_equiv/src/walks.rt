@@ -16,7 +16,7 @@ use std::alloc::Global;
 /// The most sets that a walk may have.
 const MOST_SETS: u32 = 20_003;
 
-/// Whether the states rise, all of them below a bound.
+/// Returns whether the states are strictly increasing and all below `end`.
 fn rise_below(states: &[u32], end: u32) -> bool
     ensures { result ≡ rises 0 end states.now }
 {
@@ -30,20 +30,21 @@ fn rise_below(states: &[u32], end: u32) -> bool
     true
 }
 
-/// Whether the members rise and are the start and states of places.
+/// Returns whether the members are strictly increasing, and each is the start or the state of a place.
 pub(crate) fn are_proper(a: &Prio, set: &Members) -> bool
     ensures { result ≡ all_proper a.now set.now }
 {
     rise_below(set.as_slice(), a.states() - 2)
 }
 
-/// Begins a walk with this one set.
+/// Returns a walk that has only this set.
 pub(crate) fn walk_from(alloc: Global, a: &Prio, set: &Members) -> Result<SetWalk, OutOfMemory>
     requires { all_proper a.now set.now ≡ true }
     ensures begun { IfOk result (IsBegun a.now) }
     ensures one { IfOk result (λ w. length w.sets ≡ 1) }
     ensures set { IfOk result (λ w. set_at w 0 ≡ set_of a.now set.now) }
 {
+    // Reading the number of states tells the prover that the automaton is well formed.
     let _states = a.states();
     let members = Vec::from_slice(alloc, set.as_slice())?;
     let mut walk = SetWalk::new(alloc, a, MOST_SETS)?;
@@ -57,7 +58,7 @@ pub(crate) fn walk_from(alloc: Global, a: &Prio, set: &Members) -> Result<SetWal
     }
 }
 
-/// The number of the image of the walk's first set on a letter.
+/// Returns the number of the image of the walk's first set on a letter.
 fn step_in(walk: &mut SetWalk, a: &Prio, letter: u32) -> Result<u32, OutOfMemory>
     requires begun { IsBegun a.now walk.old }
     requires room { length walk.old.sets < 20003 }
@@ -73,7 +74,7 @@ fn step_in(walk: &mut SetWalk, a: &Prio, letter: u32) -> Result<u32, OutOfMemory
     }
 }
 
-/// The image of a walk's first set on a letter.
+/// Returns the image of a walk's first set on a letter.
 pub(crate) fn image_in(walk: &mut SetWalk, a: &Prio, letter: u32) -> Result<Members, OutOfMemory>
     requires begun { IsBegun a.now walk.old }
     requires room { length walk.old.sets < 20003 }
@@ -85,7 +86,7 @@ pub(crate) fn image_in(walk: &mut SetWalk, a: &Prio, letter: u32) -> Result<Memb
     walk.members(number)
 }
 
-/// Whether the end letter leads a walk's first set to the accepting state.
+/// Returns whether the end letter leads a walk's first set to the accepting state.
 pub(crate) fn ends_in(walk: &mut SetWalk, a: &Prio) -> Result<bool, OutOfMemory>
     requires begun { IsBegun a.now walk.old }
     requires room { length walk.old.sets < 20003 }

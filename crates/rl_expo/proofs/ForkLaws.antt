@@ -4,27 +4,10 @@ use Rattle.std.proofs.lemmas.Bool.{cases_eq, cases_lt, cases_order}
 use Rattle.rl_graph.specs.Paths.{paths, led, IsPath, IsBounded, Has}
 use Rattle.rl_graph.specs.Twins.{IsTwin, HasNoTwin}
 use Rattle.rl_graph.specs.Parts.{PartTable, IsParts, number_of}
-use Rattle.rl_graph.proofs.Sums.{total-two, Has-at}
+use Rattle.rl_graph.proofs.Sums.{Has-at}
 use Rattle.rl_graph.proofs.PathLaws.{paths-nil, through_one, positive, move-path, Reaches-move, along_moves}
 use Rattle.rl_graph.proofs.TwinPaths.{onto-some, path-counts, two-there, twin-count}
 use Rattle.rl_expo.specs.internal.Forks.{IsFork, AnyFork}
-
--- A fork is a twin.
-pub fork_twin : (next : ℕ → ℕ → List ℕ) (r l i j x y : ℕ) (w : List ℕ) → IsFork next r l i j x y w → 2 ≤ paths next r r (l ∷ w)
-fork_twin next r l i j x y w f =
-    omega (arith, f.one_back, f.other_back, total-two (λ m. paths next m r w) (next r l) i j x y f.apart f.one_move f.other_move)
-
--- A fork's two moves, each with a path back, are a twin as lists of moves.
-pub fork_paths : (next : ℕ → ℕ → List ℕ) (r l i j x y : ℕ) (w p q : List ℕ) → IsFork next r l i j x y w → IsPath next x r p w → IsPath next y r q w → IsTwin next r (l ∷ w) (i ∷ p) (j ∷ q)
-fork_paths next r l i j x y w p q f h k =
-    record {
-      apart = λ e. f.apart (cc);
-      one_way = step_path x i p f.one_move h;
-      other_way = step_path y j q f.other_move k;
-    }
-  where
-    step_path : (m n : ℕ) (u : List ℕ) → slice_get (next r l) n ≡ Some m → IsPath next m r u w → IsPath next r r (n ∷ u) (l ∷ w)
-    step_path m n u e d = rw e d
 
 -- A way and then a way.
 pub joined-path : (next : ℕ → ℕ → List ℕ) (s m t : ℕ) (u v : List ℕ) → 1 ≤ paths next s m u → 1 ≤ paths next m t v → 1 ≤ paths next s t (u ++ v)

@@ -1,7 +1,7 @@
 -- What is searched of the rows that were searched in vain.
-use Rattle.std.proofs.Common.{◌≡◌, ◌≢◌, ℕ, zero, suc, ◌<◌, ◌⊎◌, inl, inr, List, length, get_or, set, replicate, Option, Some, None, IfSome, refl, sym, ◌∙◌, ap, subst, arith}
+use Rattle.std.proofs.Common.{◌≡◌, ◌≢◌, ℕ, zero, suc, ◌<◌, ◌⊎◌, inl, inr, List, length, get_or, set, replicate, Option, Some, None, IfSome, refl, sym, ◌∙◌, subst, arith}
 use Rattle.std.proofs.lemmas.Bool.{cases_eq}
-use Rattle.std.proofs.lemmas.List.{get_or-set_same, get_or-set_other, length-set, length-replicate}
+use Rattle.std.proofs.lemmas.List.{get_or-set_same, get_or-set_other, length-set}
 use Rattle.rl_graph.specs.Graph.{Graph, edges_of}
 use Rattle.rl_graph.specs.Parts.{PartTable}
 use Rattle.rl_kernel.specs.Seats.{Seats, state_at}
@@ -31,13 +31,6 @@ none_there : (n l i : ℕ) → get_or (replicate {A = Option ℕ} n None) l None
 none_there zero l i e = cc
 none_there (suc n) zero i e = cc
 none_there (suc n) (suc l) i e = none_there n l i e
-
--- None is searched at first.
-pub searched-none : (g : Graph) (s : Seats) (p : PartTable) (searched : List (Option ℕ)) (n : ℕ) → searched ≡ replicate n None → n ≡ g.letters → AreSearched g s p searched
-searched-none g s p searched n e is = record {
-  size = ap length e ∙ (length-replicate n None ∙ is);
-  none = λ l i at. absurd (none_there n l i (sym (ap (λ (z : List (Option ℕ)). get_or z l None) e) ∙ at));
-}
 
 as_some : (P : ℕ → Type 0) (o : Option ℕ) → ((b : ℕ) → o ≡ Some b → P b) → IfSome o P
 as_some P (Some b) h = h b refl

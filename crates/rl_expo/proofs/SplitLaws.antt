@@ -6,14 +6,14 @@ use Rattle.rl_graph.specs.Paths.{led, IsPath, IsBounded}
 use Rattle.rl_graph.specs.Twins.{IsTwin}
 use Rattle.rl_graph.specs.Product.{pair_moves}
 use Rattle.rl_graph.proofs.Sums.{Has-at, at-short, get_or-at}
-use Rattle.rl_graph.proofs.TwinPaths.{onto-some, path-counts}
+use Rattle.rl_graph.proofs.TwinPaths.{onto-some}
 use Rattle.rl_graph.proofs.ProductLaws.{step-pair, pairs_of, length-pairs, bounded-pairs}
 use Rattle.rl_expo.specs.declared.twins.TwinPaths.{TwinPaths}
 use Rattle.rl_expo.specs.internal.Search.{AreMoves, IsLonger, targets_of}
 use Rattle.rl_expo.specs.internal.Sides.{AreSides, IsOnWay}
 use Rattle.rl_expo.specs.declared.forks.Fork.{Fork}
 use Rattle.rl_graph.specs.Graph.{Graph, edges_of, IsWhole}
-use Rattle.rl_expo.proofs.ForkLaws.{move-in, path-end}
+use Rattle.rl_expo.proofs.ForkLaws.{move-in}
 
 -- One more move behind a path.
 pub path-push : (next : ℕ → ℕ → List ℕ) (s m t l i : ℕ) (p w : List ℕ) → IsPath next s m p w → slice_get (next m l) i ≡ Some t → IsPath next s t (p ++ i ∷ []) (w ++ l ∷ [])
@@ -42,16 +42,6 @@ path-letters next n k s t p w b h c d lt = at next n k s t p w b h c d lt
         let r = onto-some (λ m. led next m p w) (slice_get (next s l) i) t h in (move-in next n k s l i r.0 b r.1).1
     at next n k s t (i ∷ p) (l ∷ w) b h (suc c) d lt =
         let r = onto-some (λ m. led next m p w) (slice_get (next s l) i) t h in at next n k r.0 t p w b r.2 c d (omega arith)
-
--- The start of a twin is a state of the graph: its word isn't empty.
-pub twin-state : (next : ℕ → ℕ → List ℕ) (n k q : ℕ) (w p r : List ℕ) → IsBounded next n k → IsTwin next q w p r → q < n
-twin-state next n k q [] [] [] b t = absurd (t.apart refl)
-twin-state next n k q [] (i ∷ p) r b t = let h = t.one_way in cc
-twin-state next n k q [] [] (j ∷ r) b t = let h = t.other_way in cc
-twin-state next n k q (l ∷ w) [] r b t = let h = t.one_way in cc
-twin-state next n k q (l ∷ w) (i ∷ p) r b t =
-    let h = onto-some (λ m. led next m p w) (slice_get (next q l) i) q t.one_way in
-    path-end next n k h.0 q w b (move-in next n k q l i h.0 b h.1).0 (path-counts next h.0 q p w h.2)
 
 -- Moves of the product
 

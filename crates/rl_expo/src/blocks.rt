@@ -1,4 +1,6 @@
-//! The search for a fork, one component at a time: a fork, and the word that leads back, lie in one component.
+//! The search for a fork, one strongly connected component at a time. A fork is two different moves of a state on one
+//! letter such that one word leads back to the state from both targets. It lies in one component, together with the
+//! paths back.
 
 ghost use Rattle.std.specs.Prelude.{◌≡◌, ◌==◌, length, IfOk, IfSome, IfNone};
 ghost use Rattle.rl_graph.specs.Graph.{edges_of};
@@ -15,7 +17,8 @@ use rl_kernel::{Kernel, inner_graph};
 use rl_lists::OutOfMemory;
 use std::alloc::Global;
 
-/// Returns the states of the component with the given number.
+/// Returns the list of the states of the component `number`, in ascending order. `count` is the number of states of the
+/// graph.
 fn states_of(
     alloc: Global,
     components: &Components,
@@ -34,8 +37,8 @@ fn states_of(
     Ok(kernel)
 }
 
-/// Returns a fork of a state of the component: two of its moves on one letter such that one word leads back from both
-/// targets. A short search is tried before the product is built.
+/// Returns a fork of a state of the component `number`, or `None` if and only if there is none. A short search is tried
+/// before the product is built.
 fn fork_of(
     alloc: Global,
     g: &Multigraph,
@@ -56,7 +59,9 @@ fn fork_of(
     fork_among(alloc, g, &states, &parts)
 }
 
-/// Returns a fork of a state of any marked component, or `None` if the graph has no fork.
+/// Returns a fork of the graph, or `None` if and only if there is none. `components` must be the strongly connected
+/// components of `g`. `marks` must have a mark for each state number. Only components whose mark, at the component's
+/// number, is true are searched; the others must have no state with two moves on one letter that stay in the component.
 ///
 /// # Errors
 /// [`OutOfMemory`] if there is not enough memory for the search.

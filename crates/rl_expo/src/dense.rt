@@ -1,5 +1,7 @@
-//! A first search for a fork in components with many moves on one letter, since a product has the square of these moves. It
-//! looks for two moves of a state whose targets have moves on one letter to the same state.
+//! A short search for a fork in components with many moves on one letter, since the product has the square of these
+//! moves. It looks for two moves of a state whose targets have moves on one letter to the same state. It can miss
+//! forks. A fork is two different moves of a state on one letter such that one word leads back to the state from both
+//! targets.
 
 ghost use Rattle.std.specs.Prelude.{◌≡◌, ◌<◌, length, slice_index, IfOk, IfSome};
 ghost use Rattle.rl_graph.specs.Graph.{edges_of};
@@ -13,10 +15,11 @@ use rl_lists::OutOfMemory;
 use std::alloc::Global;
 
 /// A state with at most this many moves on a letter is left to the search of the product, to which its moves contribute
-/// little.
+/// little. So is a state with fewer moves on the letter than the number of letters divided by this number.
 const MANY_MOVES: usize = 16;
 
-/// A mark on a state: a move of `state` on `letter`, followed by a move on `via`, leads to the marked state.
+/// A mark on a state: the move of `state` on `letter` with the number `number`, followed by a move on `via`, leads to
+/// the marked state.
 #[derive(Clone, Copy)]
 pub struct Mark {
     /// The state at which the first move starts.
@@ -29,7 +32,8 @@ pub struct Mark {
     pub number: u32,
 }
 
-/// Returns the number of an earlier move of the mark's state and letter that has marked `target` with the same second letter.
+/// Returns the number of the move in the mark of `target`, if that mark has the same state and letters as `mark` and a
+/// smaller move number, and `None` otherwise.
 fn earlier(marks: &[Option<Mark>], target: u32, mark: Mark) -> Option<u32>
     requires { target < length marks.now }
     ensures { IfSome result (IsEarlier marks.now target mark) }
@@ -47,8 +51,9 @@ fn earlier(marks: &[Option<Mark>], target: u32, mark: Mark) -> Option<u32>
     }
 }
 
-/// Marks the targets of the moves of `middle` on the second letter. If an earlier move has already marked a target, that move
-/// and the move of `mark` are the fork.
+/// Puts `mark` on the targets, within the component of its state, of the moves of `middle` on the letter `via`.
+/// `middle` is the target of the move of `mark`. If such a target has a mark of an earlier move of the same state and
+/// letters, returns this move and the move of `mark`, which are a fork; otherwise returns `None`.
 fn meet_after(
     g: &Multigraph,
     components: &Components,
@@ -68,6 +73,7 @@ fn meet_after(
     ensures moves { IfSome result (AreMoves g.now) }
     ensures back { IfSome result (LeadsBack g.now) }
 {
+    // Reading the number of states tells the prover that the graph is well formed.
     let _states = g.states();
     let own = components.of(mark.state);
     let row = g.edges(middle, mark.via);
@@ -88,7 +94,8 @@ fn meet_after(
     None
 }
 
-/// Returns two moves of a state on `letter` whose targets have moves on `via` to the same state.
+/// Returns two moves of `state` on `letter`, within its component, whose targets have moves on `via` to one state of
+/// the component. Returns `None` if there are none.
 fn meet_on(
     g: &Multigraph,
     components: &Components,
@@ -125,13 +132,14 @@ fn meet_on(
     None
 }
 
-/// Whether a row has many moves, also in comparison with the number of letters. Searching a row looks at each of its moves
-/// once for each letter, whereas the product has the square of these moves.
+/// Returns whether a row has more than 16 moves, and at least as many as a 16th of the number of letters, rounded down.
+/// Searching a row looks at each of its moves once for each letter, whereas the product has the square of these moves.
 fn has_many(row: &[u32], letters: u32) -> bool {
     row.len() > MANY_MOVES && row.len() >= letters as usize / MANY_MOVES
 }
 
-/// Whether the state has the same row on the letter as the state `before`, whose row on it was the last one searched.
+/// Returns whether `state` has the same row on `letter` as the state `before`. If that is `None` or out of range, the
+/// result is false.
 fn is_again(g: &Multigraph, before: Option<u32>, state: u32, letter: u32) -> bool
     requires state_in { state < g.now.states }
     requires letter_in { letter < g.now.letters }
@@ -143,8 +151,9 @@ fn is_again(g: &Multigraph, before: Option<u32>, state: u32, letter: u32) -> boo
     }
 }
 
-/// Returns a fork of a state on a letter with many moves. If the same row of another state was the last one searched on this
-/// letter, without success, the row isn't searched again.
+/// Returns a fork that the short search finds for `state` on `letter`, or `None` if it finds none. A row with few moves
+/// isn't searched, nor is a row that equals the last row searched on the letter. `searched` has, for each letter, the
+/// state of that last row.
 fn meet_in_row(
     g: &Multigraph,
     components: &Components,
@@ -177,7 +186,7 @@ fn meet_in_row(
     None
 }
 
-/// Returns a fork of a state on any letter with many moves.
+/// Returns a fork that the short search finds for `state` on any letter, or `None` if it finds none.
 fn meet_from(
     g: &Multigraph,
     components: &Components,
@@ -202,7 +211,7 @@ fn meet_from(
     None
 }
 
-/// Returns, for each state, that it has no mark.
+/// Returns a list of marks in which no state has a mark.
 fn no_marks(
     alloc: Global,
     g: &Multigraph,
@@ -214,7 +223,7 @@ fn no_marks(
     Ok(marks)
 }
 
-/// Returns, for each letter, that no row has been searched on it.
+/// Returns `None` for each letter: no row has been searched on it.
 fn none_searched(alloc: Global, g: &Multigraph) -> Result<Vec<Option<u32>>, OutOfMemory>
     ensures { IfOk result (λ v. length v.items ≡ g.now.letters) }
 {
@@ -222,8 +231,9 @@ fn none_searched(alloc: Global, g: &Multigraph) -> Result<Vec<Option<u32>>, OutO
     Ok(searched)
 }
 
-/// Returns a fork, found by the short search, of any state of a component. A mark records the moves that it belongs to, so
-/// marks never have to be cleared.
+/// Returns a fork that the short search finds in the component with the number `number`, or `None` if it finds none;
+/// there can still be one. `components` must be the strongly connected components of `g`. The marks on states are never
+/// cleared, because each names the moves that it belongs to.
 ///
 /// # Errors
 /// [`OutOfMemory`] if there is not enough memory for the marks.

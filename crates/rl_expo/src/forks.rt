@@ -1,5 +1,6 @@
-//! The search for a fork among some states of a graph: two moves of a state on one letter such that one word leads back from
-//! both targets.
+//! The search for a fork among the states of a kernel: two moves of a state on one letter such that one word leads back
+//! from both targets. It goes by the parts, that is, the strongly connected components, of the product of two copies of
+//! a graph whose states are the places in the kernel. Two states meet in a part if the pair of their places is in it.
 
 ghost use Rattle.std.specs.Prelude.{◌≡◌, ℕ, ◌+◌, ◌<◌, ◌*◌, ◌^◌, length, slice_index, All, IfOk, IfSome, IfNone, IsTrue, ◌↔◌};
 ghost use Rattle.rl_kernel.specs.Seats.{seats_of, state_at};
@@ -11,20 +12,22 @@ use rl_kernel::Kernel;
 use rl_lists::OutOfMemory;
 use std::alloc::Global;
 
-/// Two moves of a state on a letter, given by their numbers, the smaller one first.
+/// Two different moves of a state on a letter, named by their numbers, which count from 0 among the moves of the state
+/// and letter. If one word leads back to the state from both targets, they are a fork.
 #[derive(Clone, Copy)]
 pub struct Fork {
-    /// The state.
+    /// The state from which both moves lead.
     pub state: u32,
-    /// The letter.
+    /// The letter of both moves.
     pub letter: u32,
-    /// The smaller move number.
+    /// The smaller one of the two move numbers.
     pub first: u32,
-    /// The greater move number.
+    /// The greater one of the two move numbers.
     pub second: u32,
 }
 
-/// Returns the number of the pair of two places.
+/// Returns the number of the pair of the places `one` and `other` in the product: `one * count + other`. `count` is the
+/// number of places.
 fn pair_of(count: u64, one: u32, other: u32) -> u64
     requires { count < 2 ^ 32 }
     ensures { result ≡ one * count + other }
@@ -32,7 +35,8 @@ fn pair_of(count: u64, one: u32, other: u32) -> u64
     u64::from(one) * count + u64::from(other)
 }
 
-/// Whether both states are in the kernel and their pair is in the part `own` of the product.
+/// Returns whether the states `one` and `other` are both in the kernel and the pair of their places is in the part
+/// `own` of the product.
 fn meets(kernel: &Kernel, parts: &Parts, own: u64, one: u32, other: u32) -> bool
     requires one_in { one < length kernel.now.places.items }
     requires other_in { other < length kernel.now.places.items }
@@ -50,8 +54,8 @@ fn meets(kernel: &Kernel, parts: &Parts, own: u64, one: u32, other: u32) -> bool
     }
 }
 
-/// Returns a move of the row that comes before the move `second` and whose target meets the target of `second` in the part
-/// `own` of the product.
+/// Returns the number of the first move of the row before the move `second` whose target meets the target of `second`
+/// in the part `own`, or `None` if there is none.
 fn partner(row: &[u32], kernel: &Kernel, parts: &Parts, own: u64, second: usize) -> Option<usize>
     requires second_in { second < length row.now }
     requires targets { All (λ m. m < length kernel.now.places.items) row.now }
@@ -69,7 +73,7 @@ fn partner(row: &[u32], kernel: &Kernel, parts: &Parts, own: u64, second: usize)
 }
 
 /// Returns two moves on `letter` of the state at `place` whose targets meet in the part of the pair of that place with
-/// itself.
+/// itself, or `None` if there are none.
 fn fork_on(g: &Multigraph, kernel: &Kernel, parts: &Parts, place: u32, letter: u32) -> Option<Fork>
     requires place_in { place < length kernel.now.states.items }
     requires letter_in { letter < g.now.letters }
@@ -81,6 +85,7 @@ fn fork_on(g: &Multigraph, kernel: &Kernel, parts: &Parts, place: u32, letter: u
     ensures found { IfSome result (IsMet g.now (seats_of kernel.now) parts.now) }
     ensures none { IfNone result (NoneMeets g.now (seats_of kernel.now) parts.now place letter) }
 {
+    // Reading the number of states tells the prover that the graph is well formed.
     let _states = g.states();
     let count = kernel.states.len() as u64;
     let own = parts.of(pair_of(count, place, place));
@@ -99,8 +104,9 @@ fn fork_on(g: &Multigraph, kernel: &Kernel, parts: &Parts, place: u32, letter: u
     None
 }
 
-/// Whether an earlier search shows that the state at `place` has no fork on `letter`: the state at `earlier` has the same row
-/// but no fork on the letter, and the pairs of the two places with themselves are in the same part.
+/// Returns whether an earlier search shows that the state at `place` has no two moves on `letter` that [`fork_on`]
+/// would return: the state at the place `earlier` has none and has the same row on the letter, and the pairs of the two
+/// places with themselves are in the same part. If `earlier` is `None`, the result is false.
 fn is_again(
     g: &Multigraph,
     kernel: &Kernel,
@@ -127,8 +133,9 @@ fn is_again(
     own == other && row == g.edges(kernel.states[earlier as usize], letter)
 }
 
-/// Returns a fork of the state at `place` on any letter. A row in which no fork was found for another place isn't searched
-/// again.
+/// Returns two moves of the state at `place` on one letter whose targets meet in the part of the pair of that place
+/// with itself, or `None` if there are none. `searched` has, for each letter, a place for which there are none; an
+/// equal row isn't searched again if the pairs of the two places with themselves are in the same part.
 fn fork_from(
     g: &Multigraph,
     kernel: &Kernel,
@@ -161,7 +168,7 @@ fn fork_from(
     None
 }
 
-/// Returns, for each letter, that no place has been searched.
+/// Returns `None` for each letter: no place has been searched.
 fn none_searched(
     alloc: Global,
     g: &Multigraph,
@@ -174,7 +181,10 @@ fn none_searched(
     Ok(searched)
 }
 
-/// Returns a fork of any state of the kernel.
+/// Returns two moves of a state of the kernel on one letter whose targets meet in the part of the pair of the state's
+/// place with itself, or `None` if and only if there are none. The kernel must have been created for the states of `g`
+/// and have fewer than 2^32 of them. With `m` places in the kernel, `parts` must have `m * m` entries, and the entry
+/// `i * m + j` is the part of the pair of the places `i` and `j`.
 ///
 /// # Errors
 /// [`OutOfMemory`] if there is not enough memory for the search.

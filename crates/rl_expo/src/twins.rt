@@ -1,4 +1,7 @@
-//! Twins, found from the parts of the products of the components of a graph with themselves.
+//! Twins, found from the parts, that is, the strongly connected components, of the products of the components of a
+//! graph with themselves. A twin is a state with two different paths to itself along one word. A fork is two different
+//! moves of a state on one letter such that one word leads back to the state from both targets; a graph has a twin if
+//! and only if it has a fork.
 
 ghost use Rattle.std.specs.Prelude.{◌≡◌, ℕ, ◌+◌, ◌*◌, ◌<◌, List, [], length, All, IfOk, OnOk, IfSome, IfNone};
 ghost use Rattle.rl_graph.specs.Graph.{edges_of};
@@ -16,22 +19,22 @@ use rl_graph::{Components, FoundPath, Multigraph, Twice, path_between};
 use rl_lists::{Items, OutOfMemory, Path, Word};
 use std::alloc::Global;
 
-/// A twin: a state, a word, and two different paths from the state back to itself along the word, each given by the numbers
-/// of its moves. Parallel moves are different moves.
+/// A twin: a state, a word, and two different paths from the state back to itself along the word. A path is given by
+/// the number of each move, counted from 0 among the moves of its state and letter. Parallel moves are different moves.
 #[derive(Drop)]
 pub struct TwinPaths {
-    /// The state.
+    /// The state at which both paths start and end.
     pub state: u32,
     /// The letters of the word.
     pub word: Word,
-    /// The first path.
+    /// The move numbers of the first path.
     pub first: Path,
-    /// The second path.
+    /// The move numbers of the second path.
     pub second: Path,
 }
 
 impl TwinPaths {
-    /// Creates two paths without moves.
+    /// Returns the empty word, with two paths of `state` without moves.
     fn new(alloc: Global, state: u32) -> TwinPaths
         ensures state { result.state ≡ state }
         ensures word { result.word ≡ [] }
@@ -46,7 +49,7 @@ impl TwinPaths {
         }
     }
 
-    /// Appends a letter, and a move of each path.
+    /// Appends a letter to the word, and a move number to each path.
     fn push(&mut self, letter: u32, first: u32, second: u32) -> Result<(), OutOfMemory>
         ensures { OnOk result (IsLonger letter first second self.old self.new) }
     {
@@ -56,7 +59,8 @@ impl TwinPaths {
     }
 }
 
-/// A move of the product, split into a move of each copy: the two move numbers and the two targets.
+/// A move of the product, split into a move of each copy: the numbers of the two moves (`first` and `second`) and their
+/// targets (`one` and `other`).
 #[derive(Clone, Copy)]
 struct Sides {
     first: u32,
@@ -65,7 +69,8 @@ struct Sides {
     other: u32,
 }
 
-/// Splits the move `number` of the pair of `one` and `other` into the moves of the two copies.
+/// Returns the moves of the two copies of which the move with the number `number` of the pair of `one` and `other` on
+/// `letter` consists.
 fn split_move(g: &Multigraph, one: u32, other: u32, letter: u32, number: u64) -> Sides
     requires one_in { one < g.now.states }
     requires other_in { other < g.now.states }
@@ -73,6 +78,7 @@ fn split_move(g: &Multigraph, one: u32, other: u32, letter: u32, number: u64) ->
     requires number_in { number < length (edges_of g.now one letter) * length (edges_of g.now other letter) }
     ensures { AreSides (edges_of g.now) g.now.states one other letter number result.first result.second result.one result.other }
 {
+    // Reading the number of states tells the prover that the graph is well formed.
     let _states = g.states();
     let ones = g.edges(one, letter);
     let others = g.edges(other, letter);
@@ -87,8 +93,8 @@ fn split_move(g: &Multigraph, one: u32, other: u32, letter: u32, number: u64) ->
     }
 }
 
-/// Builds a twin from two moves and a path of the product that leads from the pair of their targets back to the pair of the
-/// state with itself: each side of the twin is one of the moves, followed by one side of the path.
+/// Returns the twin that a fork makes with a path of the product, `back`, from the pair of the targets of its two moves
+/// to the pair of its state with itself. Each path of the twin is one of the moves, followed by one side of `back`.
 fn twin_along(
     alloc: Global,
     g: &Multigraph,
@@ -101,6 +107,7 @@ fn twin_along(
     ensures state { IfOk result (λ t. t.state < g.now.states) }
     ensures letters { IfOk result (λ t. All (λ l. l < g.now.letters) t.word) }
 {
+    // Reading the number of states tells the prover that the graph is well formed.
     let _states = g.states();
     let row = g.edges(fork.state, fork.letter);
     let mut one = row[fork.first as usize];
@@ -119,7 +126,8 @@ fn twin_along(
     Ok(twin)
 }
 
-/// Builds a twin from two moves such that one word leads back from both targets.
+/// Returns a twin made from a fork: two moves such that one word leads back from both targets. The result is never
+/// `None`.
 fn twin_of(alloc: Global, g: &Multigraph, fork: Fork) -> Result<Option<TwinPaths>, OutOfMemory>
     requires moves { AreMoves g.now fork }
     requires back { LeadsBack g.now fork }
@@ -141,10 +149,8 @@ fn twin_of(alloc: Global, g: &Multigraph, fork: Fork) -> Result<Option<TwinPaths
     }
 }
 
-/// Returns a twin of a graph, found from its strongly connected components, or `None` if and only if the graph has none.
-///
-/// The components must be the ones that [`Multigraph::components`] returns for this graph. A caller that needs them for
-/// several searches can thus compute them once. The search is the same as in [`twin`].
+/// Returns the same as [`twin`] for a graph whose strongly connected components are `components`, as
+/// [`Multigraph::components`] returns them.
 ///
 /// # Errors
 /// [`OutOfMemory`] if there is not enough memory for the search or the twin.
@@ -169,12 +175,12 @@ pub fn twin_over(
 
 /// Returns a twin of a graph, or `None` if and only if the graph has none.
 ///
-/// A twin lies within one component. For each component in which some state has two moves on one letter that stay in the
-/// component, the search finds the parts of the product of two copies of the component. It then looks for two moves of a
-/// state on one letter whose targets, as a pair, are in the same part as the pair of the state with itself (the test for EDA
-/// of Weber and Seidl 1991). States with many moves on one letter are first searched for a twin whose sides meet after two
-/// moves. The time and the memory are linear in the size of the graph and of these products. Spelling out the twin takes
-/// another search, over pairs of states of the whole graph.
+/// A twin lies within one component. For each component in which some state has two moves on one letter that stay in
+/// the component, the search finds the parts of the product of two copies of the component. It then looks for two moves
+/// of a state on one letter whose targets, as a pair, are in the same part as the pair of the state with itself (the
+/// test for EDA of Weber and Seidl 1991). States with many moves on one letter are first searched for a twin whose
+/// sides meet after two moves. Once such moves are found, a breadth-first search over pairs of states of the whole
+/// graph finds the paths of the twin.
 ///
 /// # Errors
 /// [`OutOfMemory`] if there is not enough memory for the search or the twin.

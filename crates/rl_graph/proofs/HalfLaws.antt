@@ -1,5 +1,5 @@
 -- The product by half steps reaches the same pairs as the product by whole steps.
-use Rattle.std.proofs.Common.{◌≡◌, ℕ, zero, suc, ◌+◌, ◌-◌, ◌*◌, ◌/◌, ◌%◌, ◌<◌, ◌≤◌, ◌⊎◌, ◌↔◌, inl, inr, Bool, true, false, true≢false, not, cond, ◌&&◌, List, [], ◌∷◌, ◌++◌, All, length, get_or, map, flat_map, eqb, le-ltb, lt-ltb, ne_eqb, refl, sym, ◌∙◌, ap, subst, arith, mul_comm, div-add-mod'}
+use Rattle.std.proofs.Common.{◌≡◌, ℕ, zero, suc, ◌+◌, ◌-◌, ◌*◌, ◌/◌, ◌%◌, ◌<◌, ◌≤◌, ◌⊎◌, ◌↔◌, inl, inr, Bool, true, false, true≢false, not, cond, ◌&&◌, List, [], ◌∷◌, ◌++◌, length, get_or, map, flat_map, eqb, le-ltb, lt-ltb, ne_eqb, refl, sym, ◌∙◌, ap, subst, arith, mul_comm, div-add-mod'}
 use Rattle.std.proofs.lemmas.Bool.{cases_lt, and_parts, and_from, cond-true, cond-false, cond_both}
 use Rattle.std.proofs.lemmas.List.{length-map, length_push, get_or-map, get_or_past, get_or_read, get_or_push, get_or_append_left}
 use Rattle.std.proofs.lemmas.Nat.{mul-add-lt, div-mul-add, mod-mul-add, div_below, mod_below}
@@ -245,9 +245,6 @@ rows-in g whole i t h = by (cases_lt i (length g.rows))
         edges-in g (i / g.letters) (i % g.letters) (div_below i g.letters g.states letters place) (mod_below i g.letters letters)
         ∙ ap (λ (z : ℕ). get_or g.rows z []) (div-add-mod' i g.letters) in
         whole.targets (i / g.letters) (i % g.letters) t (subst (Has t) (sym e) h)
-
-pub rows-inside : (g : Graph) → IsWhole g → (i : ℕ) → All (λ t. t < g.states) (row_at g i)
-rows-inside g whole i k d lt = rows-in g whole i (get_or (row_at g i) k d) (Has-get_or (row_at g i) k d lt)
 
 module _ (g : Graph) (numbers owners : List ℕ) (whole : IsWhole g) (some : 0 < g.letters) (named : AreNumbered g (g.states * g.letters) numbers owners) where
   owned : (p l : ℕ) → p < g.states → l < g.letters → IsOwned g owners (p * g.letters + l) (get_or numbers (p * g.letters + l) 0)

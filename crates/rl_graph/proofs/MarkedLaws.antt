@@ -1,6 +1,6 @@
 -- Marked pairs: the letters with moves, and graphs with the same moves on other letters.
 use Rattle.std.proofs.Common.{◌≡◌, ℕ, zero, suc, ◌+◌, ◌-◌, ◌*◌, ◌/◌, ◌%◌, ◌<◌, ◌≤◌, ◌↔◌, ◌⊎◌, inl, inr, Bool, true, false, not, cond, ◌&&◌, List, [], ◌∷◌, ◌++◌, length, get_or, map, eqb, ltb, le-ltb, lt-ltb, refl, sym, ◌∙◌, ap, ap₂, subst, arith, mul_comm, div-add-mod'}
-use Rattle.std.proofs.lemmas.Bool.{cases_lt, cases_Bool, and_parts, and_from, and_left, and_right, not_from_true, not_from_false, eqb-false, cond-true, cond-false}
+use Rattle.std.proofs.lemmas.Bool.{cases_lt, cases_Bool, and_parts, and_from, and_left, and_right, not_from_false, eqb-false, cond-true, cond-false}
 use Rattle.std.proofs.lemmas.List.{length_push, get_or_push, get_or_append_left}
 use Rattle.std.proofs.lemmas.Nat.{mul-add-lt, div-mul-add, mod-mul-add, div_below, mod_below}
 use Rattle.rl_graph.specs.Paths.{Has, paths, Reaches, OnCycle, IsBounded}
@@ -152,17 +152,6 @@ listed-on next n marks letters repeats x k mark lt both =
     let inner = and_from (ltb k (length letters)) (not (both_repeat n (length letters) repeats x k)) (lt-ltb k (length letters) lt) (not_from_false (both_repeat n (length letters) repeats x k) both) in
     cond-true (is_listed n marks letters repeats x k) (pair_moves next n x (get_or letters k 0)) []
     (and_from (get_or marks x false) (ltb k (length letters) && not (both_repeat n (length letters) repeats x k)) mark inner)
-
-pub listed-unmarked : (next : ℕ → ℕ → List ℕ) (n : ℕ) (marks : List Bool) (letters : List ℕ) (repeats : List Bool) (x k : ℕ) → get_or marks x false ≡ false → listed_moves next n marks letters repeats x k ≡ []
-listed-unmarked next n marks letters repeats x k mark =
-    cond-false (is_listed n marks letters repeats x k) (pair_moves next n x (get_or letters k 0)) []
-    (and_left (get_or marks x false) (ltb k (length letters) && not (both_repeat n (length letters) repeats x k)) mark)
-
-pub listed-passed : (next : ℕ → ℕ → List ℕ) (n : ℕ) (marks : List Bool) (letters : List ℕ) (repeats : List Bool) (x k : ℕ) → both_repeat n (length letters) repeats x k ≡ true → listed_moves next n marks letters repeats x k ≡ []
-listed-passed next n marks letters repeats x k both =
-    let inner = and_right (ltb k (length letters)) (not (both_repeat n (length letters) repeats x k)) (not_from_true (both_repeat n (length letters) repeats x k) both) in
-    cond-false (is_listed n marks letters repeats x k) (pair_moves next n x (get_or letters k 0)) []
-    (and_right (get_or marks x false) (ltb k (length letters) && not (both_repeat n (length letters) repeats x k)) inner)
 
 pub listed-behind : (next : ℕ → ℕ → List ℕ) (n : ℕ) (marks : List Bool) (letters : List ℕ) (repeats : List Bool) (x k : ℕ) → length letters ≤ k → listed_moves next n marks letters repeats x k ≡ []
 listed-behind next n marks letters repeats x k le =

@@ -1,14 +1,13 @@
 -- From a finished search to the parts: numbers, and moves inside a part.
-use Rattle.std.proofs.Common.{◌≡◌, ◌≢◌, ℕ, ◌+◌, ◌<◌, ◌≤◌, ◌⊎◌, ◌↔◌, inl, inr, Bool, true, false, true≢false, IsTrue, set, length-set, get_or-set_same, get_or-set_other, List, [], ◌∷◌, ◌++◌, All, length, get_or, map, refl, sym, ◌∙◌, ap, subst, arith}
+use Rattle.std.proofs.Common.{◌≡◌, ◌≢◌, ℕ, ◌+◌, ◌<◌, ◌≤◌, ◌⊎◌, ◌↔◌, inl, inr, Bool, true, false, true≢false, IsTrue, set, length-set, get_or-set_same, get_or-set_other, List, [], ◌∷◌, ◌++◌, length, get_or, map, refl, sym, ◌∙◌, ap, subst, arith}
 use Rattle.std.proofs.lemmas.Bool.{cases_lt, cases_eq}
 use Rattle.std.proofs.lemmas.List.{get_or-map, length-map, get_or_append_left, get_or_push}
-use Rattle.std.proofs.lemmas.List.Elements.{All-from_get_or}
 use Rattle.rl_graph.specs.declared.parts.SearchPlace.{SearchPlace}
 use Rattle.rl_graph.specs.declared.parts.SearchPlace.TheVariants.{Unseen, Open, Done}
 use Rattle.rl_graph.specs.Paths.{Has, paths, Reaches, OnCycle, IsBounded}
 use Rattle.rl_graph.specs.Parts.{PartTable, IsParts}
 use Rattle.rl_graph.specs.internal.InnerMoves.{HasInner, HasInnerOn, IsNumbered, AreInner, IsShared, AreShared, AreSharedUpTo}
-use Rattle.rl_graph.specs.internal.Search.{Stand, place_of, part_in, IsSearch, IsAllDone}
+use Rattle.rl_graph.specs.internal.Search.{SearchState, place_of, part_in, IsSearch, IsAllDone}
 use Rattle.rl_graph.proofs.Sums.{total-there, at-has, at-short, at-get_or, Has-get_or}
 use Rattle.rl_graph.proofs.PathLaws.{nil-same, Reaches-move, Reaches-trans, OnCycle-move, OnCycle-first}
 use Rattle.rl_graph.proofs.SearchEnds.{none-open, done-order, done-same_part}
@@ -124,7 +123,7 @@ shared-kept numbers n met marks m new s = record {
 
 -- The search over all roots
 
-pub all-done : (next : ℕ → ℕ → List ℕ) (n : ℕ) (s : Stand) → IsSearch next n s → s.frames ≡ [] → ((q : ℕ) → q < n → place_of s q ≡ Unseen → ⊥) → IsAllDone n s
+pub all-done : (next : ℕ → ℕ → List ℕ) (n : ℕ) (s : SearchState) → IsSearch next n s → s.frames ≡ [] → ((q : ℕ) → q < n → place_of s q ≡ Unseen → ⊥) → IsAllDone n s
 all-done next n s h e seen q lt = by (place_of s q) refl
   where
     by : (p : SearchPlace) → place_of s q ≡ p → (c : ℕ) × (place_of s q ≡ Done c)
@@ -132,7 +131,7 @@ all-done next n s h e seen q lt = by (place_of s q) refl
     by (Open k) a = absurd (none-open next n s h e q k a)
     by (Done c) a = (c, a)
 
-pub numbered : (next : ℕ → ℕ → List ℕ) (n : ℕ) (s : Stand) (numbers : List ℕ) → IsSearch next n s → IsAllDone n s → numbers ≡ map part_in s.places → IsNumbered next n numbers
+pub numbered : (next : ℕ → ℕ → List ℕ) (n : ℕ) (s : SearchState) (numbers : List ℕ) → IsSearch next n s → IsAllDone n s → numbers ≡ map part_in s.places → IsNumbered next n numbers
 numbered next n s numbers h all e =
     record {
       size = ap length e ∙ (length-map s.places part_in ∙ h.size);
@@ -191,9 +190,6 @@ lone-none next n w numbers marks q b h lt s lone none x = by (cases_eq q x.1.0) 
         true≢false (sym (s.all q x.1.0 o (omega (arith, h.size, inside)) (sym x.1.2)) ∙ (ap (λ z. get_or marks z false) x.1.2 ∙ lone))
     by (inr ne) (inr o) =
         true≢false (sym (s.all x.1.0 q (omega (arith, o, ne)) (omega (arith, h.size, lt)) x.1.2) ∙ lone)
-
-pub numbers-within : (next : ℕ → ℕ → List ℕ) (n : ℕ) (numbers : List ℕ) → IsNumbered next n numbers → All (λ part. part < length numbers) numbers
-numbers-within next n numbers h = All-from_get_or (λ part. part < length numbers) numbers 0 (λ i lt. omega (arith, h.size, h.below i (omega (arith, h.size))))
 
 pub parts : (next : ℕ → ℕ → List ℕ) (n w : ℕ) (p : PartTable) → IsBounded next n w → IsNumbered next n p.numbers → AreInner next n p.numbers p.cycles → IsParts next n p
 parts next n w p b h i =

@@ -78,23 +78,6 @@ pair_paths next n k h p q a b (l ∷ w) hp hq ha hb =
     ∙ (total-times (λ y. paths next y b w) (paths next x a w) (next q l) ∙ mul_comm (total (λ y. paths next y b w) (next q l)) (paths next x a w)))) in
     here ∙ (each ∙ (inner ∙ total-times (λ x. paths next x a w) (total (λ y. paths next y b w) (next q l)) (next p l)))
 
--- A move of the product by its number is a move of each copy.
-pub pair-step : (next : ℕ → ℕ → List ℕ) (n p q l m t : ℕ) → q < n → slice_get (pair_moves next n (p * n + q) l) m ≡ Some t → (x : ℕ) × (y : ℕ) × (slice_get (next p l) (m / length (next q l)) ≡ Some x) × (slice_get (next q l) (m % length (next q l)) ≡ Some y) × (t ≡ x * n + y)
-pair-step next n p q l m t h e =
-    let row = pairs_of n (next q l) (next p l) in
-    let same : pair_moves next n (p * n + q) l ≡ pairs_of n (next q l) (next p l) =
-    ap₂ (λ u v. pairs_of n (next v l) (next u l)) (div-mul-add p n q h) (mod-mul-add p n q h) in
-    let got : slice_get (pairs_of n (next q l) (next p l)) m ≡ Some t = ap (λ (r : List ℕ). slice_get r m) (sym same) ∙ e in
-    let lt : m < length (next p l) * length (next q l) =
-    omega (arith, at-short (pairs_of n (next q l) (next p l)) m t got, length-pairs n (next p l) (next q l)) in
-    let w = some-width (length (next p l)) (length (next q l)) m lt in (
-      get_or (next p l) (m / length (next q l)) 0,
-      get_or (next q l) (m % length (next q l)) 0,
-      get_or-at (next p l) (m / length (next q l)) 0 (div_below m (length (next q l)) (length (next p l)) w lt),
-      get_or-at (next q l) (m % length (next q l)) 0 (mod_below m (length (next q l)) w),
-      sym (at-get_or (pairs_of n (next q l) (next p l)) m t 0 got) ∙ at-place n (next p l) (next q l) m lt,
-    )
-
 -- A move of each copy is a move of the product.
 pub step-pair : (next : ℕ → ℕ → List ℕ) (n p q l i j x y : ℕ) → q < n → slice_get (next p l) i ≡ Some x → slice_get (next q l) j ≡ Some y → slice_get (pair_moves next n (p * n + q) l) (i * length (next q l) + j) ≡ Some (x * n + y)
 step-pair next n p q l i j x y h e f =

@@ -6,7 +6,7 @@ use Rattle.rl_graph.specs.declared.parts.SearchPlace.{SearchPlace}
 use Rattle.rl_graph.specs.declared.parts.SearchPlace.TheVariants.{Unseen, Open, Done}
 use Rattle.rl_graph.specs.declared.parts.Frame.{Frame}
 use Rattle.rl_graph.specs.Paths.{one, Has, Pairs, Reaches}
-use Rattle.rl_graph.specs.internal.Search.{Stand, place_of, is_unseen, unseen, NoMark, Settled, Before, IsSearch, IsPast, with_top, start_of, opened, closed_alone, closed_place, IsClosed, IsFinished}
+use Rattle.rl_graph.specs.internal.Search.{SearchState, place_of, is_unseen, unseen, NoMark, Settled, Before, IsSearch, IsPast, with_top, start_of, opened, closed_alone, closed_place, IsClosed, IsFinished}
 use Rattle.rl_graph.proofs.Sums.{Has-left, Has-last, Has-push, at-has, Pairs-pop}
 use Rattle.rl_graph.proofs.PathLaws.{Reaches-self, Reaches-trans, along_moves}
 use Rattle.rl_graph.proofs.SearchLaws.{open-done, open-same, done-same, unseen-open, unseen-done, top-marks, to_top, depth-in, open_one, with_marks, from_end, total-set, total-pointwise}
@@ -47,12 +47,12 @@ started next n =
 
 -- With no frame no state is open, and an unseen state can be opened
 
-pub none-open : (next : ℕ → ℕ → List ℕ) (n : ℕ) (s : Stand) → IsSearch next n s → s.frames ≡ [] → (q k : ℕ) → place_of s q ≡ Open k → ⊥
+pub none-open : (next : ℕ → ℕ → List ℕ) (n : ℕ) (s : SearchState) → IsSearch next n s → s.frames ≡ [] → (q k : ℕ) → place_of s q ≡ Open k → ⊥
 none-open next n s h e q k o =
     let f = h.marked 0 (h.first (omega (arith, (h.opened q k o).0))) in
     subst (Has f.0) e f.1
 
-pub open_root : (next : ℕ → ℕ → List ℕ) (n : ℕ) (s : Stand) (w : ℕ) → IsSearch next n s → s.frames ≡ [] → w < n → place_of s w ≡ Unseen → IsSearch next n (opened s w)
+pub open_root : (next : ℕ → ℕ → List ℕ) (n : ℕ) (s : SearchState) (w : ℕ) → IsSearch next n s → s.frames ≡ [] → w < n → place_of s w ≡ Unseen → IsSearch next n (opened s w)
 open_root next n s w h e i u = open_one next n s w h i u (λ q k o. absurd (none-open next n s h e q k o))
 
 -- A state without a move done at once
@@ -61,7 +61,7 @@ unseen-closed_at : (places : List SearchPlace) (w c : ℕ) → w < length places
 unseen-closed_at places w c h e =
     omega (arith, total-set (λ p. one (is_unseen p)) places w (Done c) Unseen h, ap (λ p. one (is_unseen p)) e)
 
-pub alone : (next : ℕ → ℕ → List ℕ) (n : ℕ) (s : Stand) (w : ℕ) → IsSearch next n s → s.frames ≡ [] → w < n → place_of s w ≡ Unseen → ((l : ℕ) → next w l ≡ []) → IsSearch next n (closed_alone s w)
+pub alone : (next : ℕ → ℕ → List ℕ) (n : ℕ) (s : SearchState) (w : ℕ) → IsSearch next n s → s.frames ≡ [] → w < n → place_of s w ≡ Unseen → ((l : ℕ) → next w l ≡ []) → IsSearch next n (closed_alone s w)
 alone next n s w h e i u idle =
     record {
       size = length-set s.places w (Done s.parts) ∙ h.size;
@@ -118,7 +118,7 @@ alone next n s w h e i u idle =
 
 -- A state finished in the middle of a group
 
-all-looked : (next : ℕ → ℕ → List ℕ) (n : ℕ) (t : Stand) (f : Frame) → IsSearch next n (with_top t f) → IsPast next f → (l m : ℕ) → Has m (next f.state l) → Settled t f.depth m
+all-looked : (next : ℕ → ℕ → List ℕ) (n : ℕ) (t : SearchState) (f : Frame) → IsSearch next n (with_top t f) → IsPast next f → (l m : ℕ) → Has m (next f.state l) → Settled t f.depth m
 all-looked next n t f s end l m h =
     let i = at-has m (next f.state l) h in
     s.looked f (Has-last f t.frames) l i.0 m i.1 (by (cases_lt l f.letter))
@@ -128,11 +128,11 @@ all-looked next n t f s end l m h =
     by (inr j) = absurd (subst (Has m) (end l j) h)
 
 -- The one open state at the depth of the top frame is that frame's.
-at-top : (next : ℕ → ℕ → List ℕ) (n : ℕ) (t : Stand) (f : Frame) (q k : ℕ) → IsSearch next n (with_top t f) → place_of t q ≡ Open k → k ≡ f.depth → q ≡ f.state
+at-top : (next : ℕ → ℕ → List ℕ) (n : ℕ) (t : SearchState) (f : Frame) (q k : ℕ) → IsSearch next n (with_top t f) → place_of t q ≡ Open k → k ≡ f.depth → q ≡ f.state
 at-top next n t f q k s o e =
     sym (s.opened q k o).1 ∙ (ap (λ z. get_or t.open_states z 0) e ∙ (s.opened f.state f.depth (s.framed f (Has-last f t.frames))).1)
 
-pub popped : (next : ℕ → ℕ → List ℕ) (n : ℕ) (t : Stand) (f : Frame) → IsSearch next n (with_top t f) → IsPast next f → ((ms : List ℕ) → t.marks ≢ ms ++ f.depth ∷ []) → IsSearch next n t
+pub popped : (next : ℕ → ℕ → List ℕ) (n : ℕ) (t : SearchState) (f : Frame) → IsSearch next n (with_top t f) → IsPast next f → ((ms : List ℕ) → t.marks ≢ ms ++ f.depth ∷ []) → IsSearch next n t
 popped next n t f s end unmarked =
     record {
       size = s.size;
@@ -188,10 +188,6 @@ closed-open k c j h = rw (lt-leb k j h) refl
 closed-done : (k c j : ℕ) → k ≤ j → closed_place k c (Open j) ≡ Done c
 closed-done k c j h = rw (le-leb k j h) refl
 
--- What a place was before the close.
-WasOpen : ℕ → SearchPlace → ℕ → Type 0
-WasOpen k p j = (p ≡ Open j) × (j < k)
-
 was-open : (k c j : ℕ) (p : SearchPlace) → closed_place k c p ≡ Open j → (p ≡ Open j) × (j < k)
 was-open k c j Unseen e = absurd (unseen-open j e)
 was-open k c j (Done d) e = absurd (open-done j d (sym e))
@@ -219,11 +215,11 @@ closed-unseen k c (Open i) = by (cases_lt i k)
     by (inl h) = ap is_unseen (closed-open k c i h)
     by (inr h) = ap is_unseen (closed-done k c i h)
 
-pub unseen-closed : (k : ℕ) (s u : Stand) → IsClosed k s u → unseen u.places ≡ unseen s.places
+pub unseen-closed : (k : ℕ) (s u : SearchState) → IsClosed k s u → unseen u.places ≡ unseen s.places
 unseen-closed k s u c =
     total-pointwise (λ p. one (is_unseen p)) Unseen u.places s.places c.size (λ q. ap one (ap is_unseen (c.places q) ∙ closed-unseen k s.parts (place_of s q)))
 
-pub closed : (next : ℕ → ℕ → List ℕ) (n : ℕ) (t u : Stand) (f : Frame) (ms : List ℕ) → IsSearch next n (with_top t f) → IsPast next f → t.marks ≡ ms ++ f.depth ∷ [] → IsClosed f.depth (with_marks t ms) u → IsSearch next n u
+pub closed : (next : ℕ → ℕ → List ℕ) (n : ℕ) (t u : SearchState) (f : Frame) (ms : List ℕ) → IsSearch next n (with_top t f) → IsPast next f → t.marks ≡ ms ++ f.depth ∷ [] → IsClosed f.depth (with_marks t ms) u → IsSearch next n u
 closed next n t u f ms s end em c =
     record {
       size = c.size ∙ s.size;
@@ -348,47 +344,34 @@ closed next n t u f ms s end em c =
         Reaches-trans next q f.state r (to_top next n t f s q x.0 x.1) (s.forth f.state r f.depth y.0 (s.framed f (Has-last f t.frames)) y.1 y.2)
 
 -- A state finished, in either case.
-pub finished : (next : ℕ → ℕ → List ℕ) (n : ℕ) (t u : Stand) (f : Frame) → IsSearch next n (with_top t f) → IsPast next f → IsFinished f.depth t u → IsSearch next n u
+pub finished : (next : ℕ → ℕ → List ℕ) (n : ℕ) (t u : SearchState) (f : Frame) → IsSearch next n (with_top t f) → IsPast next f → IsFinished f.depth t u → IsSearch next n u
 finished next n t u f s end (inl r) = closed next n t u f r.0 s end r.1 r.2
 finished next n t u f s end (inr r) = subst (IsSearch next n) (sym r.1) (popped next n t f s end r.0)
 
-pub finished-unseen : (k : ℕ) (t u : Stand) → IsFinished k t u → unseen u.places ≡ unseen t.places
+pub finished-unseen : (k : ℕ) (t u : SearchState) → IsFinished k t u → unseen u.places ≡ unseen t.places
 finished-unseen k t u (inl r) = unseen-closed k (with_marks t r.0) u r.2
-finished-unseen k t u (inr r) = ap (λ (z : Stand). unseen z.places) r.1
+finished-unseen k t u (inr r) = ap (λ (z : SearchState). unseen z.places) r.1
 
-was-unseen : (k c : ℕ) (p : SearchPlace) → closed_place k c p ≡ Unseen → p ≡ Unseen
-was-unseen k c Unseen e = refl
-was-unseen k c (Done d) e = absurd (unseen-done d (sym e))
-was-unseen k c (Open i) e = by (cases_lt i k)
-  where
-    by : (i < k) ⊎ (k ≤ i) → Open i ≡ Unseen
-    by (inl h) = sym (closed-open k c i h) ∙ e
-    by (inr h) = absurd (unseen-done c (sym e ∙ closed-done k c i h))
-
-pub finished-seen : (k : ℕ) (t u : Stand) → IsFinished k t u → (q : ℕ) → place_of u q ≡ Unseen → place_of t q ≡ Unseen
-finished-seen k t u (inl r) q e = was-unseen k t.parts (place_of t q) (sym (r.2.places q) ∙ e)
-finished-seen k t u (inr r) q e = ap (λ (z : Stand). place_of z q) (sym r.1) ∙ e
-
-pub finished-frames : (k : ℕ) (t u : Stand) → IsFinished k t u → u.frames ≡ t.frames
+pub finished-frames : (k : ℕ) (t u : SearchState) → IsFinished k t u → u.frames ≡ t.frames
 finished-frames k t u (inl r) = r.2.frames
-finished-frames k t u (inr r) = ap (λ (z : Stand). z.frames) r.1
+finished-frames k t u (inr r) = ap (λ (z : SearchState). z.frames) r.1
 
 -- The end: every state is done
 
 -- What is reached from a done state is done, with a number that isn't greater.
-pub done-falls : (next : ℕ → ℕ → List ℕ) (n : ℕ) (s : Stand) → IsSearch next n s → (q r c : ℕ) → place_of s q ≡ Done c → Reaches next q r → (d : ℕ) × (place_of s r ≡ Done d) × (d ≤ c)
+pub done-falls : (next : ℕ → ℕ → List ℕ) (n : ℕ) (s : SearchState) → IsSearch next n s → (q r c : ℕ) → place_of s q ≡ Done c → Reaches next q r → (d : ℕ) × (place_of s r ≡ Done d) × (d ≤ c)
 done-falls next n s h q r c e w =
     along_moves (λ x. (d : ℕ) × (place_of s x ≡ Done d) × (d ≤ c)) next step q r w.0 (c, e, omega arith) w.1
   where
     step : (q l m : ℕ) → ((d : ℕ) × (place_of s q ≡ Done d) × (d ≤ c)) → Has m (next q l) → (d : ℕ) × (place_of s m ≡ Done d) × (d ≤ c)
     step q l m d i = let f = h.falls q d.0 l m d.1 i in (f.0, f.1, omega (arith, f.2, d.2))
 
-pub done-order : (next : ℕ → ℕ → List ℕ) (n : ℕ) (s : Stand) → IsSearch next n s → (q r c d : ℕ) → place_of s q ≡ Done c → place_of s r ≡ Done d → Reaches next q r → d ≤ c
+pub done-order : (next : ℕ → ℕ → List ℕ) (n : ℕ) (s : SearchState) → IsSearch next n s → (q r c d : ℕ) → place_of s q ≡ Done c → place_of s r ≡ Done d → Reaches next q r → d ≤ c
 done-order next n s h q r c d a b w =
     let f = done-falls next n s h q r c a w in
     omega (arith, f.2, done-same f.0 d (sym f.1 ∙ b))
 
-pub done-same_part : (next : ℕ → ℕ → List ℕ) (n : ℕ) (s : Stand) → IsSearch next n s → (q r c d : ℕ) → place_of s q ≡ Done c → place_of s r ≡ Done d → (c ≡ d) ↔ (Reaches next q r × Reaches next r q)
+pub done-same_part : (next : ℕ → ℕ → List ℕ) (n : ℕ) (s : SearchState) → IsSearch next n s → (q r c d : ℕ) → place_of s q ≡ Done c → place_of s r ≡ Done d → (c ≡ d) ↔ (Reaches next q r × Reaches next r q)
 done-same_part next n s h q r c d a b = (
   λ e. (h.one_part q r c a (b ∙ ap Done (sym e)), h.one_part r q c (b ∙ ap Done (sym e)) a),
   λ w. le_antisymm (done-order next n s h r q d c b a w.1) (done-order next n s h q r c d a b w.0),

@@ -6,7 +6,7 @@ use Rattle.rl_graph.specs.declared.parts.SearchPlace.{SearchPlace}
 use Rattle.rl_graph.specs.declared.parts.SearchPlace.TheVariants.{Unseen, Open, Done}
 use Rattle.rl_graph.specs.declared.parts.Frame.{Frame}
 use Rattle.rl_graph.specs.Paths.{total, one, Has, Pairs, Reaches}
-use Rattle.rl_graph.specs.internal.Search.{Stand, place_of, is_unseen, unseen, NoMark, Settled, Before, IsSearch, with_top, first_frame, opened, IsCut}
+use Rattle.rl_graph.specs.internal.Search.{SearchState, place_of, is_unseen, unseen, NoMark, Settled, Before, IsSearch, with_top, first_frame, opened, IsCut}
 use Rattle.rl_graph.proofs.Sums.{Has-left, Has-append, Has-last, Has-push, at-short, Each-has, each-has, Pairs-push, Pairs-pop}
 use Rattle.rl_graph.proofs.PathLaws.{Reaches-self, Reaches-move, Reaches-trans}
 
@@ -49,17 +49,17 @@ unseen-set places w k h e =
 
 -- The frame on top
 
-top-frame : (t : Stand) (f : Frame) → Has f (with_top t f).frames
+top-frame : (t : SearchState) (f : Frame) → Has f (with_top t f).frames
 top-frame t f = Has-last f t.frames
 
-below_top : (next : ℕ → ℕ → List ℕ) (n : ℕ) (t : Stand) (f g : Frame) → IsSearch next n (with_top t f) → Has g t.frames → g.depth < f.depth
+below_top : (next : ℕ → ℕ → List ℕ) (n : ℕ) (t : SearchState) (f g : Frame) → IsSearch next n (with_top t f) → Has g t.frames → g.depth < f.depth
 below_top next n t f g s h = (Pairs-pop (λ x y. x.depth < y.depth) t.frames f s.frames_rise).1 g h
 
-pub depth-in : (next : ℕ → ℕ → List ℕ) (n : ℕ) (s : Stand) (f : Frame) → IsSearch next n s → Has f s.frames → f.depth < length s.open_states
+pub depth-in : (next : ℕ → ℕ → List ℕ) (n : ℕ) (s : SearchState) (f : Frame) → IsSearch next n s → Has f s.frames → f.depth < length s.open_states
 depth-in next n s f h i = (h.opened f.state f.depth (h.framed f i)).0
 
 -- Each mark is at the depth of the top frame or below.
-pub top-marks : (next : ℕ → ℕ → List ℕ) (n : ℕ) (t : Stand) (f : Frame) → IsSearch next n (with_top t f) → (x : ℕ) → Has x t.marks → x ≤ f.depth
+pub top-marks : (next : ℕ → ℕ → List ℕ) (n : ℕ) (t : SearchState) (f : Frame) → IsSearch next n (with_top t f) → (x : ℕ) → Has x t.marks → x ≤ f.depth
 top-marks next n t f s x h = let g = s.marked x h in by g.0 g.2 (Has-push g.0 f t.frames g.1)
   where
     by : (g : Frame) → g.depth ≡ x → Has g t.frames ⊎ (g ≡ f) → x ≤ f.depth
@@ -67,7 +67,7 @@ top-marks next n t f s x h = let g = s.marked x h in by g.0 g.2 (Has-push g.0 f 
     by g e (inr i) = omega (arith, ap (λ (z : Frame). z.depth) i)
 
 -- Each open state reaches the state of the top frame.
-pub to_top : (next : ℕ → ℕ → List ℕ) (n : ℕ) (t : Stand) (f : Frame) → IsSearch next n (with_top t f) → (r k : ℕ) → place_of t r ≡ Open k → Reaches next r f.state
+pub to_top : (next : ℕ → ℕ → List ℕ) (n : ℕ) (t : SearchState) (f : Frame) → IsSearch next n (with_top t f) → (r k : ℕ) → place_of t r ≡ Open k → Reaches next r f.state
 to_top next n t f s r k o = by (cases_lt f.depth k)
   where
     by : (f.depth < k) ⊎ (k ≤ f.depth) → Reaches next r f.state
@@ -75,7 +75,7 @@ to_top next n t f s r k o = by (cases_lt f.depth k)
     by (inl h) = s.back f.state r f.depth k (s.framed f (top-frame t f)) o (omega arith) (λ x i j. top-marks next n t f s x i)
 
 -- Another frame of the same state on top.
-pub retop : (next : ℕ → ℕ → List ℕ) (n : ℕ) (t : Stand) (f g : Frame) → IsSearch next n (with_top t f) → g.state ≡ f.state → g.depth ≡ f.depth → ((l i m : ℕ) → slice_get (next f.state l) i ≡ Some m → Before l i g → Settled t f.depth m) → IsSearch next n (with_top t g)
+pub retop : (next : ℕ → ℕ → List ℕ) (n : ℕ) (t : SearchState) (f g : Frame) → IsSearch next n (with_top t f) → g.state ≡ f.state → g.depth ≡ f.depth → ((l i m : ℕ) → slice_get (next f.state l) i ≡ Some m → Before l i g → Settled t f.depth m) → IsSearch next n (with_top t g)
 retop next n t f g s es ed look =
     record {
       size = s.size;
@@ -124,7 +124,7 @@ moved_on f = record f { number = f.number + 1 }
 abbrev pub turned : Frame → Frame
 turned f = record f { letter = f.letter + 1; number = 0 }
 
-pub move_on : (next : ℕ → ℕ → List ℕ) (n : ℕ) (t : Stand) (f : Frame) (m : ℕ) → IsSearch next n (with_top t f) → slice_get (next f.state f.letter) f.number ≡ Some m → Settled t f.depth m → IsSearch next n (with_top t (moved_on f))
+pub move_on : (next : ℕ → ℕ → List ℕ) (n : ℕ) (t : SearchState) (f : Frame) (m : ℕ) → IsSearch next n (with_top t f) → slice_get (next f.state f.letter) f.number ≡ Some m → Settled t f.depth m → IsSearch next n (with_top t (moved_on f))
 move_on next n t f m s here settled = retop next n t f (moved_on f) s refl refl (λ l i x e b. by l i x e b)
   where
     same : (l i x : ℕ) → slice_get (next f.state l) i ≡ Some x → l ≡ f.letter → i ≡ f.number → Settled t f.depth x
@@ -141,7 +141,7 @@ move_on next n t f m s here settled = retop next n t f (moved_on f) s refl refl 
     by l i x e (inl h) = s.looked f (top-frame t f) l i x e (inl h)
     by l i x e (inr h) = later l i x e h.0 (cases_lt i f.number) h.1
 
-pub turn : (next : ℕ → ℕ → List ℕ) (n : ℕ) (t : Stand) (f : Frame) → IsSearch next n (with_top t f) → length (next f.state f.letter) ≤ f.number → IsSearch next n (with_top t (turned f))
+pub turn : (next : ℕ → ℕ → List ℕ) (n : ℕ) (t : SearchState) (f : Frame) → IsSearch next n (with_top t f) → length (next f.state f.letter) ≤ f.number → IsSearch next n (with_top t (turned f))
 turn next n t f s all = retop next n t f (turned f) s refl refl (λ l i x e b. by l i x e b)
   where
     on_letter : (l i x : ℕ) → slice_get (next f.state l) i ≡ Some x → (l < f.letter) ⊎ (f.letter ≤ l) → l < f.letter + 1 → Settled t f.depth x
@@ -191,18 +191,18 @@ rising-low p new rise low x h = by (from_end new)
         last (inl i) = omega (arith, (Pairs-pop (λ a b. a < b) r.0 r.1 (subst (Pairs (λ a b. a < b)) r.2 rise)).1 x i, low r.0 r.1 r.2)
         last (inr e) = omega (arith, low r.0 r.1 r.2)
 
-abbrev pub with_marks : Stand → List ℕ → Stand
+abbrev pub with_marks : SearchState → List ℕ → SearchState
 with_marks s marks = record s { marks = marks }
 
-settled-fewer : (s : Stand) (new : List ℕ) → ((x : ℕ) → Has x new → Has x s.marks) → (k m : ℕ) → Settled s k m → Settled (with_marks s new) k m
+settled-fewer : (s : SearchState) (new : List ℕ) → ((x : ℕ) → Has x new → Has x s.marks) → (k m : ℕ) → Settled s k m → Settled (with_marks s new) k m
 settled-fewer s new sub k m (inl d) = inl d
 settled-fewer s new sub k m (inr o) = inr (o.0, o.1, λ x h i. o.2 x (sub x h) i)
 
-pub cut-low : (next : ℕ → ℕ → List ℕ) (n : ℕ) (t : Stand) (f : Frame) (p : ℕ) (new : List ℕ) → IsSearch next n (with_top t f) → IsCut p t.marks new → (x : ℕ) → Has x new → x ≤ p
+pub cut-low : (next : ℕ → ℕ → List ℕ) (n : ℕ) (t : SearchState) (f : Frame) (p : ℕ) (new : List ℕ) → IsSearch next n (with_top t f) → IsCut p t.marks new → (x : ℕ) → Has x new → x ≤ p
 cut-low next n t f p new s c = rising-low p new (Pairs-left (λ x y. x < y) new c.off (subst (Pairs (λ x y. x < y)) c.split s.marks_rise)) c.low
 
 -- The top frame's state has a move to `w`, which is open at the depth `p`: the groups above `p` become one group.
-pub joined : (next : ℕ → ℕ → List ℕ) (n : ℕ) (t : Stand) (f : Frame) (l w p : ℕ) (new : List ℕ) → IsSearch next n (with_top t f) → Has w (next f.state l) → place_of t w ≡ Open p → IsCut p t.marks new → IsSearch next n (with_top (with_marks t new) f)
+pub joined : (next : ℕ → ℕ → List ℕ) (n : ℕ) (t : SearchState) (f : Frame) (l w p : ℕ) (new : List ℕ) → IsSearch next n (with_top t f) → Has w (next f.state l) → place_of t w ≡ Open p → IsCut p t.marks new → IsSearch next n (with_top (with_marks t new) f)
 joined next n t f l w p new s move o c =
     record {
       size = s.size;
@@ -235,24 +235,24 @@ joined next n t f l w p new s move o c =
 
 -- A state opened
 
-place-here : (s : Stand) (w : ℕ) → w < length s.places → place_of (opened s w) w ≡ Open (length s.open_states)
+place-here : (s : SearchState) (w : ℕ) → w < length s.places → place_of (opened s w) w ≡ Open (length s.open_states)
 place-here s w h = get_or-set_same s.places w (Open (length s.open_states)) Unseen h
 
-place-other : (s : Stand) (w q : ℕ) → q ≢ w → place_of (opened s w) q ≡ place_of s q
+place-other : (s : SearchState) (w q : ℕ) → q ≢ w → place_of (opened s w) q ≡ place_of s q
 place-other s w q ne = get_or-set_other s.places w q (Open (length s.open_states)) Unseen ne
 
 -- The search place of a state after `w` was opened: the place of `w`, or the old place.
-place-split : (s : Stand) (w : ℕ) → w < length s.places → (q : ℕ) (p : SearchPlace) → place_of (opened s w) q ≡ p → ((q ≡ w) × (Open (length s.open_states) ≡ p)) ⊎ (place_of s q ≡ p)
+place-split : (s : SearchState) (w : ℕ) → w < length s.places → (q : ℕ) (p : SearchPlace) → place_of (opened s w) q ≡ p → ((q ≡ w) × (Open (length s.open_states) ≡ p)) ⊎ (place_of s q ≡ p)
 place-split s w h q p e = by (cases_eq q w)
   where
     by : (q ≡ w) ⊎ (q ≢ w) → ((q ≡ w) × (Open (length s.open_states) ≡ p)) ⊎ (place_of s q ≡ p)
     by (inl i) = inl (i, sym (place-here s w h) ∙ (ap (place_of (opened s w)) (sym i) ∙ e))
     by (inr i) = inr (sym (place-other s w q i) ∙ e)
 
-place-kept : (s : Stand) (w q : ℕ) (p : SearchPlace) → place_of s w ≡ Unseen → (Unseen ≡ p → ⊥) → place_of s q ≡ p → place_of (opened s w) q ≡ p
+place-kept : (s : SearchState) (w q : ℕ) (p : SearchPlace) → place_of s w ≡ Unseen → (Unseen ≡ p → ⊥) → place_of s q ≡ p → place_of (opened s w) q ≡ p
 place-kept s w q p u ne e = place-other s w q (λ i. ne (sym u ∙ (ap (place_of s) (sym i) ∙ e))) ∙ e
 
-settled-open : (s : Stand) (w k m : ℕ) → place_of s w ≡ Unseen → k < length s.open_states → Settled s k m → Settled (opened s w) k m
+settled-open : (s : SearchState) (w k m : ℕ) → place_of s w ≡ Unseen → k < length s.open_states → Settled s k m → Settled (opened s w) k m
 settled-open s w k m u h (inl d) = inl (d.0, place-kept s w m (Done d.0) u (unseen-done d.0) d.1)
 settled-open s w k m u h (inr o) = inr (o.0, place-kept s w m (Open o.0) u (unseen-open o.0) o.1, λ x i j. by x j (Has-push x (length s.open_states) s.marks i))
   where
@@ -260,7 +260,7 @@ settled-open s w k m u h (inr o) = inr (o.0, place-kept s w m (Open o.0) u (unse
     by x j (inl i) = o.2 x i j
     by x j (inr e) = absurd (omega arith)
 
-pub open_one : (next : ℕ → ℕ → List ℕ) (n : ℕ) (s : Stand) (w : ℕ) → IsSearch next n s → w < n → place_of s w ≡ Unseen → ((q k : ℕ) → place_of s q ≡ Open k → Reaches next q w) → IsSearch next n (opened s w)
+pub open_one : (next : ℕ → ℕ → List ℕ) (n : ℕ) (s : SearchState) (w : ℕ) → IsSearch next n s → w < n → place_of s w ≡ Unseen → ((q k : ℕ) → place_of s q ≡ Open k → Reaches next q w) → IsSearch next n (opened s w)
 open_one next n s w h in_range u reach =
     record {
       size = length-set s.places w (Open len) ∙ h.size;
@@ -352,6 +352,6 @@ open_one next n s w h in_range u reach =
     to_one q r c (inr a) (inr b) = h.one_part q r c a b
 
 -- The top frame's state has a move to an unseen state, which is then opened.
-pub open_next : (next : ℕ → ℕ → List ℕ) (n : ℕ) (t : Stand) (f : Frame) (l w : ℕ) → IsSearch next n (with_top t f) → w < n → place_of t w ≡ Unseen → Has w (next f.state l) → IsSearch next n (opened (with_top t f) w)
+pub open_next : (next : ℕ → ℕ → List ℕ) (n : ℕ) (t : SearchState) (f : Frame) (l w : ℕ) → IsSearch next n (with_top t f) → w < n → place_of t w ≡ Unseen → Has w (next f.state l) → IsSearch next n (opened (with_top t f) w)
 open_next next n t f l w s h u m =
     open_one next n (with_top t f) w s h u (λ q k o. Reaches-trans next q f.state w (to_top next n t f s q k o) (Reaches-move next f.state w l m))

@@ -8,7 +8,7 @@ use Rattle.std.proofs.lemmas.List.Elements.{All-append, All-set, All-replicate}
 use Rattle.std.specs.List.{slice_range}
 use Rattle.rl_graph.specs.declared.row_list.Span.{Span}
 use Rattle.rl_graph.specs.Spans.{row_of, no_span, rows_in, AreWithin}
-use Rattle.rl_graph.specs.internal.GrownRows.{IsGrown, StandsIn, Holds, IsPlaced}
+use Rattle.rl_graph.specs.internal.GrownRows.{IsGrown, IsRowAt, IsFilledRowAt, IsPlaced}
 
 -- One row
 
@@ -70,7 +70,7 @@ one : {A : Type 0} (P : A → Type 0) (x : A) → P x → All P (x ∷ [])
 one P x p zero d h = p
 one P x p (suc k) d h = absurd (omega (arith, h))
 
-pub rows-pushed : (old new row : List ℕ) (apart : List (List ℕ)) (spans : List Span) (span : Span) → AreWithin old apart spans → IsGrown old new → StandsIn new row span → rows_in new apart (spans ++ span ∷ []) ≡ rows_in old apart spans ++ row ∷ []
+pub rows-pushed : (old new row : List ℕ) (apart : List (List ℕ)) (spans : List Span) (span : Span) → AreWithin old apart spans → IsGrown old new → IsRowAt new row span → rows_in new apart (spans ++ span ∷ []) ≡ rows_in old apart spans ++ row ∷ []
 rows-pushed old new row apart spans span w g s =
     rows-by new apart (spans ++ span ∷ []) (rows_in old apart spans ++ row ∷ [])
     (length-append (rows_in old apart spans) (row ∷ []) ∙ ap (λ n. n + 1) (rows-length old apart spans) ∙ sym (length-append spans (span ∷ [])))
@@ -87,7 +87,7 @@ rows-pushed old new row apart spans span w g s =
         ap₂ (row_of new) (get_or_past apart k [] (omega (arith, le, w.few))) (get_or_push spans span no_span k (omega (arith, le, h))) ∙ (s.same
         ∙ sym (get_or_push (rows_in old apart spans) row [] k (omega (arith, le, h, rows-length old apart spans))))
 
-pub within-pushed : (old new row : List ℕ) (apart : List (List ℕ)) (spans : List Span) (span : Span) → AreWithin old apart spans → IsGrown old new → StandsIn new row span → length row < 2 ^ 32 → AreWithin new apart (spans ++ span ∷ [])
+pub within-pushed : (old new row : List ℕ) (apart : List (List ℕ)) (spans : List Span) (span : Span) → AreWithin old apart spans → IsGrown old new → IsRowAt new row span → length row < 2 ^ 32 → AreWithin new apart (spans ++ span ∷ [])
 within-pushed old new row apart spans span w g s short = record {
   few = omega (arith, w.few, length-append spans (span ∷ []));
   within = All-append (λ (span : Span). span.end ≤ length new) spans (span ∷ []) (grown-within old new spans g w.within) (one (λ (span : Span). span.end ≤ length new) span s.within);
@@ -162,7 +162,7 @@ set-out numbers apart moved spans rows place span row number e w there s filled 
   same = p.here ∙ ap (λ (r : List ℕ). r ++ number ∷ []) (r ∙ (sym (row-shared numbers (get_or apart place []) span filled) ∙ row-now numbers apart spans rows place span e there s));
 }
 
-pub set-last : (old new : List ℕ) (apart : List (List ℕ)) (spans : List Span) (rows : List (List ℕ)) (place : ℕ) (span longer : Span) (number : ℕ) → rows_in old apart spans ≡ rows → AreWithin old apart spans → place < length spans → span ≡ get_or spans place span → span.start < span.end → length old ≤ span.end → IsGrown old new → Holds new (drop span.start old ++ number ∷ []) longer → IsSet old new apart apart spans place longer (get_or rows place [] ++ number ∷ [])
+pub set-last : (old new : List ℕ) (apart : List (List ℕ)) (spans : List Span) (rows : List (List ℕ)) (place : ℕ) (span longer : Span) (number : ℕ) → rows_in old apart spans ≡ rows → AreWithin old apart spans → place < length spans → span ≡ get_or spans place span → span.start < span.end → length old ≤ span.end → IsGrown old new → IsFilledRowAt new (drop span.start old ++ number ∷ []) longer → IsSet old new apart apart spans place longer (get_or rows place [] ++ number ∷ [])
 set-last old new apart spans rows place span longer number e w there s filled last g h = record {
   grown = g;
   elsewhere = λ k ne. refl;
@@ -188,7 +188,7 @@ set-apart numbers apart moved spans rows place span number e w there s empty p =
     at : span ≡ get_or spans place no_span
     at = get_or_read spans place span there s no_span
 
-pub set-begun : (old new : List ℕ) (apart : List (List ℕ)) (spans : List Span) (rows : List (List ℕ)) (place : ℕ) (span begun : Span) (number : ℕ) → rows_in old apart spans ≡ rows → AreWithin old apart spans → place < length spans → span ≡ get_or spans place span → span.end ≤ span.start → get_or apart place [] ≡ [] → IsGrown old new → Holds new (drop (length old) old ++ number ∷ []) begun → IsSet old new apart apart spans place begun (get_or rows place [] ++ number ∷ [])
+pub set-begun : (old new : List ℕ) (apart : List (List ℕ)) (spans : List Span) (rows : List (List ℕ)) (place : ℕ) (span begun : Span) (number : ℕ) → rows_in old apart spans ≡ rows → AreWithin old apart spans → place < length spans → span ≡ get_or spans place span → span.end ≤ span.start → get_or apart place [] ≡ [] → IsGrown old new → IsFilledRowAt new (drop (length old) old ++ number ∷ []) begun → IsSet old new apart apart spans place begun (get_or rows place [] ++ number ∷ [])
 set-begun old new apart spans rows place span begun number e w there s empty none g h = record {
   grown = g;
   elsewhere = λ k ne. refl;

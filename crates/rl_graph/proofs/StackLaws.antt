@@ -5,7 +5,7 @@ use Rattle.std.proofs.lemmas.List.{length_push, get_or_past}
 use Rattle.rl_graph.specs.declared.parts.SearchPlace.{SearchPlace}
 use Rattle.rl_graph.specs.declared.parts.SearchPlace.TheVariants.{Unseen, Open, Done}
 use Rattle.rl_graph.specs.Paths.{Has}
-use Rattle.rl_graph.specs.internal.Search.{Stand, place_of, closed_place, closed_below, IsListed, IsCut, IsSearch}
+use Rattle.rl_graph.specs.internal.Search.{SearchState, place_of, closed_place, closed_below, IsListed}
 use Rattle.rl_graph.proofs.SearchLaws.{unseen-open}
 
 -- Marks taken off
@@ -31,19 +31,6 @@ off-more depth mark start old new (Some y) h e g lt =
     above x (inl i) = omega (arith, i, same)
     above x (inr i) = h.2 x i
 
-pub cut-off : (depth : ℕ) (start new : List ℕ) → IsOff depth start new → ((ms : List ℕ) (x : ℕ) → new ≡ ms ++ x ∷ [] → x ≤ depth) → IsCut depth start new
-cut-off depth start new h low = record { off = h.0; split = h.1; above = h.2; low = low }
-
-pub low-some : (depth mark : ℕ) (new : List ℕ) → slice_get new (length new - 1) ≡ Some mark → mark ≤ depth → (ms : List ℕ) (x : ℕ) → new ≡ ms ++ x ∷ [] → x ≤ depth
-low-some depth mark new g le ms x e =
-    let k : Some x ≡ Some mark = sym (last-get ms x) ∙ (ap (λ (z : List ℕ). slice_get z (length z - 1)) (sym e) ∙ g) in
-    let same : x ≡ mark = cc in
-    omega arith
-
-pub low-none : (depth : ℕ) (new : List ℕ) → slice_get new (length new - 1) ≡ None → (ms : List ℕ) (x : ℕ) → new ≡ ms ++ x ∷ [] → x ≤ depth
-low-none depth new g ms x e =
-    let k : Some x ≡ None = sym (last-get ms x) ∙ (ap (λ (z : List ℕ). slice_get z (length z - 1)) (sym e) ∙ g) in cc
-
 -- States of the stack closed one after another
 
 below-in : (from to c j : ℕ) → from ≤ j → j < to → closed_below from to c (Open j) ≡ Done c
@@ -55,15 +42,6 @@ below-low from to c j h = rw (and_left (leb from j) (ltb j to) (lt-leb from j h)
 below-high : (from to c j : ℕ) → to ≤ j → closed_below from to c (Open j) ≡ Open j
 below-high from to c j h = rw (and_right (leb from j) (ltb j to) (le-ltb j to h)) refl
 
-pub below-none : (from c : ℕ) (p : SearchPlace) → closed_below from from c p ≡ p
-below-none from c Unseen = refl
-below-none from c (Done d) = refl
-below-none from c (Open j) = by (cases_lt j from)
-  where
-    by : (j < from) ⊎ (from ≤ j) → closed_below from from c (Open j) ≡ Open j
-    by (inl h) = below-low from from c j h
-    by (inr h) = below-high from from c j h
-
 below-same : (from to c j : ℕ) → j ≢ to → closed_below from (to + 1) c (Open j) ≡ closed_below from to c (Open j)
 below-same from to c j ne = by (cases_lt j from) (cases_lt j to)
   where
@@ -72,7 +50,7 @@ below-same from to c j ne = by (cases_lt j from) (cases_lt j to)
     by (inr h) (inl k) = below-in from (to + 1) c j h (omega arith) ∙ sym (below-in from to c j h k)
     by (inr h) (inr k) = below-high from (to + 1) c j (omega arith) ∙ sym (below-high from to c j k)
 
-pub below-more : (s : Stand) → IsListed s → (places : List SearchPlace) (from to c : ℕ) → from ≤ to → to < length s.open_states → length places ≡ length s.places → ((q : ℕ) → get_or places q Unseen ≡ closed_below from to c (place_of s q)) → (q : ℕ) → get_or (set places (get_or s.open_states to 0) (Done c)) q Unseen ≡ closed_below from (to + 1) c (place_of s q)
+pub below-more : (s : SearchState) → IsListed s → (places : List SearchPlace) (from to c : ℕ) → from ≤ to → to < length s.open_states → length places ≡ length s.places → ((q : ℕ) → get_or places q Unseen ≡ closed_below from to c (place_of s q)) → (q : ℕ) → get_or (set places (get_or s.open_states to 0) (Done c)) q Unseen ≡ closed_below from (to + 1) c (place_of s q)
 below-more s h places from to c le lt size old q = by (cases_eq q (get_or s.open_states to 0))
   where
     at : place_of s (get_or s.open_states to 0) ≡ Open to
@@ -97,7 +75,7 @@ below-more s h places from to c le lt size old q = by (cases_eq q (get_or s.open
         ∙ sym (ap (λ z. closed_below from (to + 1) c (place_of s z)) e ∙ (ap (closed_below from (to + 1) c) at ∙ below-in from (to + 1) c to le (omega arith))))
     by (inr ne) = get_or-set_other places (get_or s.open_states to 0) q (Done c) Unseen ne ∙ (old q ∙ other (place_of s q) refl ne)
 
-pub below-all : (s : Stand) → IsListed s → (from to c : ℕ) → length s.open_states ≤ to → (q : ℕ) → closed_below from to c (place_of s q) ≡ closed_place from c (place_of s q)
+pub below-all : (s : SearchState) → IsListed s → (from to c : ℕ) → length s.open_states ≤ to → (q : ℕ) → closed_below from to c (place_of s q) ≡ closed_place from c (place_of s q)
 below-all s h from to c le q = by (place_of s q) refl
   where
     at : (j : ℕ) → j < to → (j < from) ⊎ (from ≤ j) → closed_below from to c (Open j) ≡ closed_place from c (Open j)
@@ -109,12 +87,9 @@ below-all s h from to c le q = by (place_of s q) refl
     by (Done d) e = refl
     by (Open j) e = at j (omega (arith, (h.opened q j e).0)) (cases_lt j from)
 
-pub listed-in : (s : Stand) → IsListed s → (i : ℕ) → i < length s.open_states → get_or s.open_states i 0 < length s.places
+pub listed-in : (s : SearchState) → IsListed s → (i : ℕ) → i < length s.open_states → get_or s.open_states i 0 < length s.places
 listed-in s h i lt = by (cases_lt (get_or s.open_states i 0) (length s.places))
   where
     by : (get_or s.open_states i 0 < length s.places) ⊎ (length s.places ≤ get_or s.open_states i 0) → get_or s.open_states i 0 < length s.places
     by (inl h) = h
     by (inr k) = absurd (unseen-open i (sym (get_or_past s.places (get_or s.open_states i 0) Unseen k) ∙ h.listed i lt))
-
-pub listed-search : (next : ℕ → ℕ → List ℕ) (n : ℕ) (s : Stand) → IsSearch next n s → IsListed s
-listed-search next n s h = record { listed = h.listed; opened = h.opened }

@@ -3,10 +3,10 @@ use Rattle.std.proofs.Common.{◌≡◌, ◌≢◌, ℕ, zero, suc, ◌+◌, ◌
 use Rattle.std.proofs.lemmas.Bool.{cases_lt, cases_eq}
 use Rattle.std.proofs.lemmas.List.{length_push, get_or_push, get_or_append_left, get_or-replicate, length-replicate, get_or_past, reverse-append, length-reverse}
 use Rattle.rl_graph.specs.declared.walks.Node.{Node}
-use Rattle.rl_graph.specs.Paths.{total, one, Has, paths, IsPath, OnCycle, led, onto, IsBounded}
+use Rattle.rl_graph.specs.Paths.{total, one, Has, paths, IsPath, led, onto, IsBounded}
 use Rattle.rl_graph.specs.Walks.{IsShortest, NoPath}
 use Rattle.rl_graph.specs.internal.Nodes.{Steps}
-use Rattle.rl_graph.specs.internal.Nodes.{node_of, seen_of, root_node, start_steps, IsStep, IsWalk, Near, Passed, IsAt, Missed, IsRooted, reached, IsReached, Extends, IsFurther, IsWayTo}
+use Rattle.rl_graph.specs.internal.Nodes.{node_of, seen_of, root_node, start_steps, IsStep, IsWalk, Near, ComesAfter, IsAt, Missed, IsRooted, reached, IsReached, Extends, IsFurther, IsWayTo}
 use Rattle.rl_graph.proofs.Sums.{at-has, at-short, Has-at, total-there}
 use Rattle.rl_graph.proofs.PathLaws.{nil-same, one-le}
 use Rattle.rl_graph.proofs.SearchLaws.{total-set}
@@ -43,16 +43,16 @@ child s k c e m = record { state = m; parent = k; letter = c; number = e; depth 
 
 -- What a walk has come to, one move further on
 
-passed-more : (k c e j l i : ℕ) → Passed k c (e + 1) j l i → Passed k c e j l i ⊎ ((j ≡ k) × (l ≡ c) × (i ≡ e))
+passed-more : (k c e j l i : ℕ) → ComesAfter k c (e + 1) j l i → ComesAfter k c e j l i ⊎ ((j ≡ k) × (l ≡ c) × (i ≡ e))
 passed-more k c e j l i (inl h) = inl (inl h)
 passed-more k c e j l i (inr (a, inl h)) = inl (inr (a, inl h))
 passed-more k c e j l i (inr (a, inr h)) = by (cases_lt i e)
   where
-    by : (i < e) ⊎ (e ≤ i) → Passed k c e j l i ⊎ ((j ≡ k) × (l ≡ c) × (i ≡ e))
+    by : (i < e) ⊎ (e ≤ i) → ComesAfter k c e j l i ⊎ ((j ≡ k) × (l ≡ c) × (i ≡ e))
     by (inl x) = inl (inr (a, inr (h.0, x)))
     by (inr x) = inr (a, h.0, omega (arith, h.1))
 
-passed-old : (k c e j l i n : ℕ) → k < n → Passed k c e j l i → j < n
+passed-old : (k c e j l i n : ℕ) → k < n → ComesAfter k c e j l i → j < n
 passed-old k c e j l i n h (inl x) = omega arith
 passed-old k c e j l i n h (inr x) = omega (arith, x.0)
 
@@ -71,7 +71,7 @@ at-seen next n s k c e m w a h here seen =
     found : Near s m ((node_of s k).depth + 1)
     found = let f = w.listed m seen in (f.0, f.1, f.2, f.3, a.top f.0 f.2 h)
 
-    by : (j l i x : ℕ) → j < length s.nodes → slice_get (next (node_of s j).state l) i ≡ Some x → Passed k c e j l i ⊎ ((j ≡ k) × (l ≡ c) × (i ≡ e)) → Near s x ((node_of s j).depth + 1)
+    by : (j l i x : ℕ) → j < length s.nodes → slice_get (next (node_of s j).state l) i ≡ Some x → ComesAfter k c e j l i ⊎ ((j ≡ k) × (l ≡ c) × (i ≡ e)) → Near s x ((node_of s j).depth + 1)
     by j l i x lt got (inl p) = a.near j l i x p lt got
     by j l i x lt got (inr p) =
         subst (λ (z : ℕ). Near s x ((node_of s z).depth + 1)) (sym p.0)
@@ -93,7 +93,7 @@ at-new next n s k c e m w a h here =
         let f = node-new s (child s k c e m) (length s.nodes) refl in
         (length s.nodes, omega (arith, w.least_one, w.some), omega (arith, length_push s.nodes (child s k c e m)), ap (λ (z : Node). z.state) f, omega (arith, ap (λ (z : Node). z.depth) f))
 
-    by : (j l i y : ℕ) → j < length s.nodes → slice_get (next (node_of (reached s (child s k c e m)) j).state l) i ≡ Some y → Passed k c e j l i ⊎ ((j ≡ k) × (l ≡ c) × (i ≡ e)) → Near (reached s (child s k c e m)) y ((node_of (reached s (child s k c e m)) j).depth + 1)
+    by : (j l i y : ℕ) → j < length s.nodes → slice_get (next (node_of (reached s (child s k c e m)) j).state l) i ≡ Some y → ComesAfter k c e j l i ⊎ ((j ≡ k) × (l ≡ c) × (i ≡ e)) → Near (reached s (child s k c e m)) y ((node_of (reached s (child s k c e m)) j).depth + 1)
     by j l i y lt got (inl p) =
         let g = subst (λ (z : Node). slice_get (next z.state l) i ≡ Some y) (old j lt) got in
         subst (λ (z : Node). Near (reached s (child s k c e m)) y (z.depth + 1)) (sym (old j lt)) (near-kept s (child s k c e m) y ((node_of s j).depth + 1) (a.near j l i y p lt g))
@@ -197,14 +197,14 @@ reach_one next n s u k c e m w a h here in_range (inr r) =
 pub next-letter : (next : ℕ → ℕ → List ℕ) (s : Steps) (k c e : ℕ) → IsAt next k c e s → length (next (node_of s k).state c) ≤ e → IsAt next k (c + 1) 0 s
 next-letter next s k c e a all = record { near = λ j l i m p lt got. a.near j l i m (by j l i m got p) lt got; top = a.top }
   where
-    on_letter : (j l i m : ℕ) → slice_get (next (node_of s j).state l) i ≡ Some m → j ≡ k → (l < c) ⊎ (c ≤ l) → l < c + 1 → Passed k c e j l i
+    on_letter : (j l i m : ℕ) → slice_get (next (node_of s j).state l) i ≡ Some m → j ≡ k → (l < c) ⊎ (c ≤ l) → l < c + 1 → ComesAfter k c e j l i
     on_letter j l i m got x (inl h) y = inr (x, inl h)
     on_letter j l i m got x (inr h) y =
         let z : l ≡ c = omega arith in
         let short = at-short (next (node_of s j).state l) i m got in
         inr (x, inr (z, omega (arith, short, ap₂ (λ u v. length (next (node_of s u).state v)) x z)))
 
-    by : (j l i m : ℕ) → slice_get (next (node_of s j).state l) i ≡ Some m → Passed k (c + 1) 0 j l i → Passed k c e j l i
+    by : (j l i m : ℕ) → slice_get (next (node_of s j).state l) i ≡ Some m → ComesAfter k (c + 1) 0 j l i → ComesAfter k c e j l i
     by j l i m got (inl h) = inl h
     by j l i m got (inr (x, inl h)) = on_letter j l i m got x (cases_lt l c) h
     by j l i m got (inr (x, inr h)) = absurd (omega (arith, h.1))
@@ -217,11 +217,11 @@ next-node next n w s k c b h a end =
     letter j l i m got (inl x) = x
     letter j l i m got (inr x) = absurd (subst (Has m) (b.letters (node_of s j).state l (omega arith)) (Has-at (next (node_of s j).state l) i m got))
 
-    here : (j l i m : ℕ) → slice_get (next (node_of s j).state l) i ≡ Some m → j < k + 1 → (j < k) ⊎ (k ≤ j) → Passed k c 0 j l i
+    here : (j l i m : ℕ) → slice_get (next (node_of s j).state l) i ≡ Some m → j < k + 1 → (j < k) ⊎ (k ≤ j) → ComesAfter k c 0 j l i
     here j l i m got lt (inl x) = inl x
     here j l i m got lt (inr x) = inr (omega arith, inl (letter j l i m got (cases_lt l c)))
 
-    by : (j l i m : ℕ) → slice_get (next (node_of s j).state l) i ≡ Some m → Passed (k + 1) 0 0 j l i → Passed k c 0 j l i
+    by : (j l i m : ℕ) → slice_get (next (node_of s j).state l) i ≡ Some m → ComesAfter (k + 1) 0 0 j l i → ComesAfter k c 0 j l i
     by j l i m got (inl x) = here j l i m got x (cases_lt j k)
     by j l i m got (inr (x, inl y)) = absurd (omega arith)
     by j l i m got (inr (x, inr y)) = absurd (omega (arith, y.1))
@@ -246,7 +246,7 @@ started_at next n from least =
     zero-below : (j : ℕ) → j < 1 → j ≡ 0
     zero-below j h = omega arith
 
-    none : (j l i : ℕ) → Passed 0 0 0 j l i → ⊥
+    none : (j l i : ℕ) → ComesAfter 0 0 0 j l i → ⊥
     none j l i (inl h) = omega arith
     none j l i (inr (a, inl h)) = omega arith
     none j l i (inr (a, inr h)) = omega (arith, h.1)
@@ -412,7 +412,3 @@ total-length (b ∷ l) = omega (arith, one-le b, total-length l)
 
 pub few-nodes : (next : ℕ → ℕ → List ℕ) (n : ℕ) (s : Steps) → IsWalk next n s → length s.nodes ≤ n + 1
 few-nodes next n s w = omega (arith, w.few, w.least_one, total-length s.seen, w.size)
-
--- If no word of at least one letter leads back to a state, the state is on no cycle.
-pub off-cycle : (next : ℕ → ℕ → List ℕ) (q : ℕ) → NoPath next 1 q q → OnCycle next q → ⊥
-off-cycle next q none c = none (c.0 ∷ c.1) (omega arith) c.2

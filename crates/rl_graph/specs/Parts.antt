@@ -1,23 +1,26 @@
--- The parts of a graph, that is, its strongly connected components.
+-- The parts of a graph, that is, its strongly connected components. A graph is given by the function `next` from a
+-- state and a letter to the list of the targets of its moves. A state reaches another one if some word leads there;
+-- every state reaches itself, by the empty word. A state lies on a cycle if it reaches itself by a non-empty word.
 use Rattle.std.specs.Prelude.{◌≡◌, ℕ, ◌<◌, ◌≤◌, ◌↔◌, Bool, false, IsTrue, List, length, slice_index, slice_index_or}
 use Rattle.rl_graph.specs.Paths.{Reaches, OnCycle}
 
--- A part number for each state, and a flag for each state that lies on a cycle.
+-- A table of parts: for each state, the number of its part (`numbers`) and a flag that says whether the state lies on a
+-- cycle (`cycles`).
 pub record PartTable : Type 0 where
   pub numbers : List ℕ
   pub cycles : List Bool
 
--- The number of a state's part.
+-- The number of the part of the state `q`, or 0 if the table has no entry for `q`.
 abbrev pub number_of : PartTable → ℕ → ℕ
 number_of p q = slice_index p.numbers q
 
--- Whether a state is marked as lying on a cycle.
+-- The cycle flag of the state `q`, or false if the table has no entry for `q`.
 abbrev pub cycle_of : PartTable → ℕ → Bool
 cycle_of p q = slice_index_or p.cycles q false
 
--- The table lists the strongly connected components of a graph of `n` states: two states have the same number if and only
--- if each reaches the other, and a part that is reached from another one has the smaller number. A state is marked as
--- lying on a cycle if and only if it reaches itself by a non-empty word.
+-- Holds if the table lists the strongly connected components of a graph of `n` states. Two states have the same number
+-- if and only if each reaches the other. Numbers are less than `n`, and a part that is reached from another one has the
+-- smaller number. A state's flag is true if and only if the state reaches itself by a non-empty word.
 pub record IsParts (next : ℕ → ℕ → List ℕ) (n : ℕ) (p : PartTable) : Type 0 where
   pub size : length p.numbers ≡ n
   pub below : (q : ℕ) → q < n → number_of p q < n

@@ -28,8 +28,8 @@ impl Model for Components {
 }
 
 impl Components {
-    /// Returns the number of a state's component, which is less than the number of states. A component that is reached
-    /// from another one has the smaller number.
+    /// Returns the number of the component of `state`, which must be a state of the graph. The number is less than the
+    /// number of states. A component that is reached from another one has the smaller number.
     pub fn of(&self, state: u32) -> u32
         requires { state < length self.now.numbers }
         ensures { result ≡ number_of self.now state }
@@ -37,7 +37,7 @@ impl Components {
         self.parts.of(u64::from(state)) as u32
     }
 
-    /// Whether a state reaches itself by one move or more.
+    /// Returns whether `state`, which must be a state of the graph, reaches itself by at least one move.
     pub fn on_cycle(&self, state: u32) -> bool
         requires { state < length self.now.numbers }
         ensures { result ≡ cycle_of self.now state }
@@ -47,13 +47,15 @@ impl Components {
 }
 
 impl Multigraph {
-    /// Finds the strongly connected components of the graph, in time and memory linear in its states and moves.
+    /// Returns the strongly connected components of the graph. The time is linear in the number of moves plus the
+    /// product of the numbers of states and letters, and the memory is linear in the number of states.
     ///
     /// # Errors
     /// [`OutOfMemory`] if there is not enough memory for the search or the components.
     pub fn components(&self) -> Result<Components, OutOfMemory>
         ensures { IfOk result (λ c. IsParts (edges_of self.now) self.now.states c) }
     {
+        // Reading the number of states tells the prover that the graph is well formed.
         let _states = self.states();
         let parts = parts_of(self.allocator(), self)?;
         Ok(Components { parts })

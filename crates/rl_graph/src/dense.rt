@@ -1,4 +1,5 @@
-//! Restricting a table of parts to the first states, with part numbers made dense.
+//! Restricting a table of parts to the first states, and renumbering the parts so that the numbers stay below the
+//! number of these states.
 
 ghost use Rattle.std.specs.Prelude.{◌≡◌, ◌<◌, ◌≤◌, ℕ, length, IfOk};
 ghost use Rattle.rl_graph.specs.Parts.{number_of};
@@ -8,7 +9,8 @@ use crate::parts::Parts;
 use rl_lists::OutOfMemory;
 use std::alloc::Global;
 
-/// Marks each part number that one of the first `count` states has.
+/// Returns `size` flags, one for each part number. The flag is true if one of the states below `count` has that part
+/// number.
 fn used_marks(alloc: Global, parts: &Parts, size: u64, count: u64) -> Result<Vec<bool>, OutOfMemory>
     requires states { count ≤ length parts.now.numbers }
     requires below { (q : ℕ) → q < count → number_of parts.now q < size }
@@ -21,7 +23,7 @@ fn used_marks(alloc: Global, parts: &Parts, size: u64, count: u64) -> Result<Vec
     Ok(marks)
 }
 
-/// Returns, for each place, the number of marks set before it.
+/// Returns, for each index of `marks`, the number of true marks before it.
 fn ranks_of(alloc: Global, marks: &[bool]) -> Result<Vec<u64>, OutOfMemory>
     ensures { IfOk result (λ v. AreRanks marks.now (length marks.now) v.items) }
 {
@@ -36,7 +38,7 @@ fn ranks_of(alloc: Global, marks: &[bool]) -> Result<Vec<u64>, OutOfMemory>
     Ok(ranks)
 }
 
-/// Returns the rank of the part number of each of the first `count` states.
+/// Returns, for each state below `count`, the entry of `ranks` for its part number.
 fn ranked(alloc: Global, parts: &Parts, ranks: &[u64], count: u64) -> Result<Vec<u64>, OutOfMemory>
     requires states { count ≤ length parts.now.numbers }
     requires below { (q : ℕ) → q < count → number_of parts.now q < length ranks.now }
@@ -49,7 +51,7 @@ fn ranked(alloc: Global, parts: &Parts, ranks: &[u64], count: u64) -> Result<Vec
     Ok(numbers)
 }
 
-/// Returns, for each of the first `count` states, whether it lies on a cycle.
+/// Returns, for each state below `count`, whether it lies on a cycle.
 fn cycles_of(alloc: Global, parts: &Parts, count: u64) -> Result<Vec<bool>, OutOfMemory>
     requires states { count ≤ length parts.now.numbers }
     ensures { IfOk result (λ v. AreCut parts.now count v.items) }
@@ -61,8 +63,8 @@ fn cycles_of(alloc: Global, parts: &Parts, count: u64) -> Result<Vec<bool>, OutO
     Ok(cycles)
 }
 
-/// Restricts the table to the first `count` states and makes the part numbers dense: each number becomes the number of
-/// smaller part numbers among those states.
+/// Returns the table restricted to the states below `count`, with new part numbers: each becomes the number of smaller
+/// part numbers among those states. All part numbers of those states must be less than `size`.
 pub(crate) fn dense(
     alloc: Global,
     parts: &Parts,

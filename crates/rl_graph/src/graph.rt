@@ -1,4 +1,4 @@
-//! Multigraphs.
+//! Multigraphs with numbered states and letters.
 
 ghost use Rattle.std.specs.Prelude.{◌≡◌, ◌<◌, ◌≤◌, ◌+◌, ◌*◌, ◌^◌, All, length, IfOk, OnOk, OnErr};
 ghost use Rattle.rl_graph.specs.Graph.{edges_of, IsWhole, IsBare, IsAdded};
@@ -9,8 +9,8 @@ use rl_lists::OutOfMemory;
 use std::alloc::Global;
 use std::marker::Model;
 
-/// A graph of numbered states whose moves carry numbered letters. A state may have several moves on one letter, even to
-/// the same target; a move's number is its position, from 0, among the moves of its state and letter.
+/// A graph of states whose moves carry letters. States and letters are numbered from 0. A state may have several moves on
+/// one letter, even to the same target; a move's number is its position, from 0, among the moves of its state and letter.
 #[derive(Drop)]
 pub struct Multigraph {
     states: u32,
@@ -29,7 +29,7 @@ impl Model for Multigraph {
 }
 
 impl Multigraph {
-    /// Creates a graph with `states` states, `letters` letters and no moves.
+    /// Returns a graph with `states` states, `letters` letters and no moves.
     ///
     /// # Errors
     /// [`OutOfMemory`] if there is not enough memory for its rows.
@@ -44,13 +44,15 @@ impl Multigraph {
         })
     }
 
-    /// Creates a graph from its rows of targets, one row for each state and letter. The rows of a state are adjacent, in
-    /// the order of the letters, and a row lists the targets of its moves in order.
+    /// Returns the graph with these rows of targets. The row of the state `q` and the letter `l` has the index
+    /// `q * letters + l`, and lists the targets of the moves in order. There must be a row for each state and letter,
+    /// and all targets must be less than `states`.
     pub fn from_rows(states: u32, letters: u32, rows: RowList) -> Multigraph
         requires size { length rows ≡ states * letters }
         requires targets { All (All (λ target. target < states)) rows }
         ensures { result ≡ record { states = states; letters = letters; rows = rows } }
     {
+        // Reading the number of rows tells the prover that each row has fewer than 2^32 targets.
         let _count = rows.len();
         Multigraph {
             states,
@@ -59,9 +61,12 @@ impl Multigraph {
         }
     }
 
-    /// Adds a move as the last one of its state and letter. Whatever the order in which moves are added, they take time
-    /// and memory proportional to their number. It is best to add them row by row: a row that grows after a later row was
-    /// begun is moved, once.
+    /// Adds a move from `from` to `to` on `letter`, as the last one of its state and letter. `from` and `to` must be
+    /// states of the graph, `letter` must be one of its letters, and `from` must have fewer than 2^32 - 1 moves on
+    /// `letter`. In whatever order moves are added, filling a graph takes time and memory proportional to the number of
+    /// its moves and rows, where a row has the moves of one state on one letter. A row that grows after moves of
+    /// another row were stored behind it is copied to memory of its own, at most once, so it is fastest to add moves
+    /// row by row.
     ///
     /// # Errors
     /// [`OutOfMemory`] if there is not enough memory for the move; the graph is then unchanged.
@@ -92,7 +97,8 @@ impl Multigraph {
         self.letters
     }
 
-    /// Returns the targets of the moves of a state on a letter, in the order in which they were added.
+    /// Returns the targets of the moves from the state `from` on `letter`, in the order in which they were added. Both
+    /// must be in range. The list is empty if there are no such moves.
     pub fn edges(&self, from: u32, letter: u32) -> &[u32]
         requires from_in { from < self.now.states }
         requires letter_in { letter < self.now.letters }
@@ -104,15 +110,15 @@ impl Multigraph {
         self.rows.row(place)
     }
 
-    /// Returns the number of rows: one for each state and letter.
+    /// Returns the number of rows: the number of states times the number of letters.
     pub(crate) fn row_count(&self) -> u64
         ensures { result ≡ self.now.states * self.now.letters }
     {
         u64::from(self.states) * u64::from(self.letters)
     }
 
-    /// Returns the targets of the row at `place`. The rows of a state are adjacent, in the order of the letters. Past the
-    /// last row, the result is empty.
+    /// Returns the row of targets with the index `place`: the row of the state `q` and the letter `l` has the index
+    /// `q * letters + l`. Past the last row, the result is empty.
     pub(crate) fn row(&self, place: u64) -> &[u32]
         ensures targets { result.now ≡ row_at self.now place }
         ensures whole { IsWhole self.now }

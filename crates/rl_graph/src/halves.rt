@@ -1,4 +1,5 @@
-//! The product of two copies of a graph in which only the marked pairs move, by half steps.
+//! The product of two copies of a graph in which only the marked pairs move, by half steps: first the second state
+//! moves, then the first.
 
 ghost use Rattle.std.specs.Prelude.{◌≡◌, ◌+◌, ◌*◌, ◌<◌, ◌≤◌, ◌^◌, ℕ, true, [], length};
 ghost use Rattle.rl_graph.specs.Paths.{Has};
@@ -9,9 +10,10 @@ use crate::moves::NextStates;
 use crate::rows::Rows;
 
 /// The product of two copies of a graph in which only the marked pairs move, by half steps. In a graph with `n` states,
-/// the pair of the states `p` and `q` is the node `p * n + q`, and the half node of the row number `r` and the state `u`
-/// is the node `(n + r) * n + u`. At a pair, the second state moves, to the half node of the first state's row on the
-/// same letter. From there, the first state moves, on letter 0, to a target of that row.
+/// the pair of the states `p` and `q` is the node `p * n + q`, and the half node of the row number `r` and the state
+/// `u` is the node `(n + r) * n + u`. At a marked pair, if the first state has a move on the letter, the second state
+/// moves on it, to the half node of the first state's row on that letter. From there, the first state moves, on letter
+/// 0, to a target of that row. `marks` has a flag for each pair, and `rows` the row numbers of the graph.
 #[derive(Drop)]
 pub(crate) struct HalfSteps<'a> {
     pub(crate) graph: &'a Multigraph,
@@ -83,6 +85,7 @@ impl<'a> NextStates for HalfSteps<'a> {
 
     fn may_loop(&self, from: u64) -> bool {
         // A pair moves only to half nodes, and a half node only to pairs.
+        // Reading the number of states tells the prover that the graph is well formed.
         let _states = self.graph.states();
         false
     }

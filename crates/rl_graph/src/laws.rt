@@ -1,5 +1,6 @@
-//! Laws of paths in multigraphs, for all graphs. The function does nothing: what it ensures is what is proved. A graph is
-//! a function from a state and a letter to the ordered list of the targets of its moves.
+//! Laws of paths in multigraphs, for all graphs. The function does nothing: what it ensures is what is proved. A graph
+//! is a function from a state and a letter to the ordered list of the targets of its moves. A twin is a state with two
+//! different paths to itself along one word.
 
 ghost use Rattle.std.specs.Prelude.{◌↔◌, ◌≢◌, ℕ, ◌≤◌, List};
 ghost use Rattle.rl_graph.specs.Paths.{paths, IsPath};

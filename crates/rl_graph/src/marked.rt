@@ -1,4 +1,4 @@
-//! The product of two copies of a graph in which only the marked pairs move.
+//! The product of two copies of a graph in which only the marked pairs move, on a list of letters.
 
 ghost use Rattle.std.specs.Prelude.{◌≡◌, ℕ, ◌*◌, ◌<◌, ◌≤◌, ◌↔◌, IsTrue, true, false, length, slice_index, slice_index_or, IfOk};
 ghost use Rattle.rl_graph.specs.Graph.{edges_of};
@@ -10,10 +10,12 @@ use crate::moves::{NextStates, Twice};
 use rl_lists::OutOfMemory;
 use std::alloc::Global;
 
-/// The product of two copies of a graph in which only the marked pairs move, and only on the letters of a list. A letter
-/// is given by its place in the list. It is skipped if both states of the pair have the same rows on it as on the letter
-/// before it, since the same moves were taken there. `repeats` has a flag for each state and letter, as [`repeats_of`]
-/// computes them, and `loops` has a flag for each state, as [`loops_of`] computes them.
+/// The product of two copies of a graph in which only the marked pairs move, and only on the letters of a list. In a
+/// graph with `n` states, the pair of the states `p` and `q` is the state `p * n + q` of the product, and `marks` has a
+/// flag for each pair. A letter of the product is an index in the list `letters`. A pair has no moves on a letter on
+/// which both of its states have the same rows as on the letter before it in the list, since they would only repeat
+/// moves. `repeats` is the result of [`repeats_of`], and `loops` has a flag for each state, which must be true if the
+/// state has a move to itself.
 #[derive(Drop)]
 pub(crate) struct MarkedPairs<'a> {
     pub(crate) graph: &'a Multigraph,
@@ -30,7 +32,8 @@ pub(crate) struct MarkedPairs<'a> {
 }
 
 impl<'a> MarkedPairs<'a> {
-    /// Whether both states of a pair have the same row on a letter as on the letter before it.
+    /// Returns whether both states of the pair `from` have the same rows on the letter as on the letter before it in
+    /// the list. `letter` is an index in the list.
     fn repeats_both(&self, from: u64, letter: u32) -> bool
         requires pair_in { from < self.now.graph.now.states * self.now.graph.now.states }
         requires letter_in { letter < length self.now.letters.now }
@@ -44,7 +47,7 @@ impl<'a> MarkedPairs<'a> {
         self.repeats[first as usize] & self.repeats[second as usize]
     }
 
-    /// Whether both states of a pair have a move to themselves.
+    /// Returns whether the flags say that both states of the pair `from` have a move to themselves.
     fn loop_both(&self, from: u64) -> bool
         requires { from < self.now.graph.now.states * self.now.graph.now.states }
         ensures { result ≡ both_loop self.now.graph.now.states self.now.loops.now from }
@@ -67,6 +70,7 @@ impl<'a> NextStates for MarkedPairs<'a> {
     }
 
     fn letters(&self) -> u32 {
+        // Reading the number of letters tells the prover that it fits in 32 bits. The list has at most as many.
         let _letters = self.graph.letters();
         self.letters.len() as u32
     }
@@ -98,6 +102,7 @@ impl<'a> NextStates for MarkedPairs<'a> {
     }
 
     fn may_loop(&self, from: u64) -> bool {
+        // Reading the number of states tells the prover that the graph is well formed.
         let _states = self.graph.states();
         if self.marks[from as usize] {
             self.loop_both(from)
@@ -107,7 +112,7 @@ impl<'a> NextStates for MarkedPairs<'a> {
     }
 }
 
-/// Whether any state has a move on `letter`.
+/// Returns whether any state has a move on `letter`.
 fn has_moves(g: &Multigraph, letter: u32) -> bool
     requires { letter < g.now.letters }
     ensures { IsTrue result ↔ HasMoves g.now letter }
@@ -120,7 +125,7 @@ fn has_moves(g: &Multigraph, letter: u32) -> bool
     false
 }
 
-/// Returns the letters on which some state has a move.
+/// Returns the letters on which some state has a move, in ascending order.
 pub(crate) fn letters_of(alloc: Global, g: &Multigraph) -> Result<Vec<u32>, OutOfMemory>
     ensures { IfOk result (λ v. AreLetters g.now v.items) }
 {
@@ -133,7 +138,8 @@ pub(crate) fn letters_of(alloc: Global, g: &Multigraph) -> Result<Vec<u32>, OutO
     Ok(letters)
 }
 
-/// Whether a state's row on a letter of the list equals its row on the letter before it in the list.
+/// Returns whether a state's row on the letter with the index `place` in the list equals its row on the letter before
+/// it in the list. The result is false for the first letter.
 fn is_repeat(g: &Multigraph, letters: &[u32], state: u32, place: usize) -> bool
     requires state_in { state < g.now.states }
     requires place_in { place < length letters.now }
@@ -147,7 +153,8 @@ fn is_repeat(g: &Multigraph, letters: &[u32], state: u32, place: usize) -> bool
 }
 
 /// Returns, for each state and each letter of the list, whether the state's row on the letter equals its row on the
-/// letter before it. The flags of a state are adjacent, in the order of the letters.
+/// letter before it in the list. The flag of the state `q` and the letter with the index `k` has the index
+/// `q * letters.len() + k`.
 pub(crate) fn repeats_of(
     alloc: Global,
     g: &Multigraph,
@@ -165,7 +172,7 @@ pub(crate) fn repeats_of(
     Ok(repeats)
 }
 
-/// Whether a state has a move to itself on `letter`.
+/// Returns whether a state has a move to itself on `letter`.
 fn has_loop_on(g: &Multigraph, state: u32, letter: u32) -> bool
     requires state_in { state < g.now.states }
     requires letter_in { letter < g.now.letters }
@@ -179,7 +186,7 @@ fn has_loop_on(g: &Multigraph, state: u32, letter: u32) -> bool
     false
 }
 
-/// Whether a state has a move to itself.
+/// Returns whether a state has a move to itself on any letter.
 fn has_loop(g: &Multigraph, state: u32) -> bool
     requires { state < g.now.states }
     ensures { IsTrue result ↔ HasLoop (edges_of g.now) state }
@@ -192,7 +199,7 @@ fn has_loop(g: &Multigraph, state: u32) -> bool
     false
 }
 
-/// Returns, for each state, whether it has a move to itself.
+/// Returns, for each state, whether it has a move to itself on any letter.
 pub(crate) fn loops_of(alloc: Global, g: &Multigraph) -> Result<Vec<bool>, OutOfMemory>
     ensures { IfOk result (λ v. AreLoops (edges_of g.now) g.now.states v.items) }
 {

@@ -7,7 +7,8 @@ ghost use Rattle.rl_graph.specs.Product.{pair_moves};
 
 use crate::graph::Multigraph;
 
-/// A graph of numbered states and letters that can be asked for its moves one at a time.
+/// A graph of numbered states and letters that can be asked for its moves one at a time. States, letters, and the moves
+/// of a state on a letter are numbered from 0. All moves lead to states below [`NextStates::states`].
 pub trait NextStates {
     // The number of states.
     ghost size: { Self → ℕ };
@@ -27,13 +28,14 @@ pub trait NextStates {
     fn letters(&self) -> u32
         ensures { result ≡ width self.now };
 
-    /// Returns the number of moves of a state on a letter.
+    /// Returns the number of moves of the state `from` on `letter`. Both must be in range.
     fn count(&self, from: u64, letter: u32) -> u64
         requires state_in { from < size self.now }
         requires letter_in { letter < width self.now }
         ensures { result ≡ length (next self.now from letter) };
 
-    /// Returns the target of the move with the given number, counted from 0.
+    /// Returns the target of the move with the number `number`, counted from 0, of the state `from` on `letter`. All
+    /// three must be in range.
     fn target(&self, from: u64, letter: u32, number: u64) -> u64
         requires state_in { from < size self.now }
         requires letter_in { letter < width self.now }
@@ -41,8 +43,8 @@ pub trait NextStates {
         ensures target { result ≡ slice_index (next self.now from letter) number }
         ensures inside { result < size self.now };
 
-    /// Returns a letter such that the state has no moves on it or on any later letter. By default, this is the number of
-    /// letters.
+    /// Returns a letter such that the state `from`, which must be in range, has no moves on it or on any greater
+    /// letter. It can be the number of letters, which is the default.
     fn end_letter(&self, from: u64) -> u32
         requires { from < size self.now }
         ensures within { result ≤ width self.now }
@@ -51,7 +53,8 @@ pub trait NextStates {
         self.letters()
     }
 
-    /// Whether a state may have a move to itself. It must be true if the state has one; by default, it is always true.
+    /// Returns whether the state `from`, which must be in range, may have a move to itself. The result must be true if
+    /// it has one; if it has none, either result is right. By default, it is always true.
     fn may_loop(&self, from: u64) -> bool
         requires { from < size self.now }
         ensures { (l : ℕ) → Has from (next self.now from l) → result ≡ true }
@@ -76,26 +79,30 @@ impl NextStates for Multigraph {
     }
 
     fn count(&self, from: u64, letter: u32) -> u64 {
+        // Reading the number of states tells the prover that the graph is well formed.
         let _count = Multigraph::states(self);
         self.edges(from as u32, letter).len() as u64
     }
 
     fn target(&self, from: u64, letter: u32, number: u64) -> u64 {
+        // Reading the number of states tells the prover that the graph is well formed.
         let _count = Multigraph::states(self);
         u64::from(self.edges(from as u32, letter)[number as usize])
     }
 }
 
-/// Two copies of a multigraph that move side by side on the same letters, that is, the product of the graph with itself.
-/// In a graph with `n` states, the pair of the states `p` and `q` is the state `p * n + q`. If `q` has `k` moves on a
-/// letter, the move `i` of `p` together with the move `j` of `q` is the move `i * k + j` of the pair.
+/// The product of a multigraph with itself: two copies that move side by side on the same letters. In a graph with `n`
+/// states, the pair of the states `p` and `q` is the state `p * n + q` of the product. If `q` has `k` moves on a
+/// letter, the move with the number `i` of `p` together with the move with the number `j` of `q` is the move with the
+/// number `i * k + j` of the pair.
 #[derive(Clone, Copy)]
 pub struct Twice<'a> {
-    /// The graph.
+    /// The graph of which the product is made.
     pub graph: &'a Multigraph,
 }
 
-/// Returns the pair of targets with the given number in the product of two rows.
+/// Returns the target of the move with the given number of a pair: `first` and `second` are the targets of its two
+/// states, and `count` is the number of states.
 fn chosen(first: &[u32], second: &[u32], count: u64, number: u64) -> u64
     requires number_in { number < length first.now * length second.now }
     requires small { count < 2 ^ 32 }

@@ -1,4 +1,5 @@
-//! The parts of the product of two copies of a graph, found by whole steps or by half steps.
+//! The parts of the product of two copies of a graph. A whole step takes a move of the first copy together with a move
+//! of the second; two half steps take first a move of the second copy, then a move of the first.
 
 ghost use Rattle.std.specs.Prelude.{◌≡◌, ◌+◌, ◌*◌, ◌<◌, ◌^◌, IsTrue, length, IfOk, IfSome};
 ghost use Rattle.rl_graph.specs.Graph.{edges_of};
@@ -16,17 +17,18 @@ use crate::rows::{Rows, rows_of};
 use rl_lists::OutOfMemory;
 use std::alloc::Global;
 
-/// Half steps are used only if there are more than this many times as many whole steps as half steps.
+/// Half steps are used only if by estimate there are more than this many times as many whole steps.
 const GAIN: u64 = 4;
 
-/// The number of moves of a graph, and the number of pairs of moves on the same letter. Both saturate.
+/// The number of moves of a graph, and the sum over all letters of the squared number of moves on the letter, that is,
+/// the number of pairs of moves on the same letter. Both stop at the largest `u64`.
 #[derive(Clone, Copy)]
 struct Counts {
     moves: u64,
     pairs: u64,
 }
 
-/// Returns the number of marks that are set.
+/// Returns the number of marks that are true.
 fn count_of(marks: &[bool]) -> u64 {
     let mut count: u64 = 0;
     for mark in marks {
@@ -37,7 +39,7 @@ fn count_of(marks: &[bool]) -> u64 {
     count
 }
 
-/// Returns the number of moves of a graph on a letter.
+/// Returns the number of moves of all states on `letter`.
 fn moves_on(g: &Multigraph, letter: u32) -> u64
     requires { letter < g.now.letters }
 {
@@ -48,7 +50,7 @@ fn moves_on(g: &Multigraph, letter: u32) -> u64
     moves
 }
 
-/// Counts the moves of a graph, and their pairs.
+/// Returns the number of moves of a graph, and the number of pairs of moves on the same letter.
 fn counts_of(g: &Multigraph) -> Counts {
     let mut counts = Counts { moves: 0, pairs: 0 };
     for letter in 0..g.letters() {
@@ -59,7 +61,8 @@ fn counts_of(g: &Multigraph) -> Counts {
     counts
 }
 
-/// Estimates how many pairs of moves belong to `moving` pairs of states, from the average over all pairs of states.
+/// Returns an estimate of the number of pairs of moves that `moving` pairs of states have: `moving` times the average
+/// over all pairs of states, rounded down.
 fn moving_pairs(g: &Multigraph, counts: Counts, moving: u64) -> u64 {
     let states = u64::from(g.states());
     if states == 0 {
@@ -68,13 +71,15 @@ fn moving_pairs(g: &Multigraph, counts: Counts, moving: u64) -> u64 {
     (counts.pairs / (states * states)).saturating_mul(moving)
 }
 
-/// Whether `steps` exceeds [`GAIN`] times the number of pairs of a state and a move.
+/// Returns whether `steps` divided by [`GAIN`], rounded down, is greater than the number of states times the number of
+/// moves.
 fn is_dense(g: &Multigraph, counts: Counts, steps: u64) -> bool {
     steps / GAIN > counts.moves.saturating_mul(u64::from(g.states()))
 }
 
-/// Whether `steps` exceeds [`GAIN`] times the work on the half nodes of `rows` distinct rows, each of which is asked for
-/// every letter. It is false if a node's number might not fit.
+/// Returns whether half steps through `rows` distinct rows pay: whether `steps` divided by [`GAIN`], rounded down, is
+/// greater than the product of `rows` and the numbers of states and letters. The result is false if there are no
+/// letters, or if the number of a node might not fit a `u64`.
 fn is_shared(g: &Multigraph, steps: u64, rows: usize) -> bool
     ensures { IsTrue result → (g.now.states + rows < 2 ^ 32) × (0 < g.now.letters) }
 {
@@ -86,8 +91,8 @@ fn is_shared(g: &Multigraph, steps: u64, rows: usize) -> bool
         && steps / GAIN > nodes.saturating_mul(u64::from(letters))
 }
 
-/// Returns the numbered rows of a graph if half steps are much cheaper than whole steps when `moving` pairs move, and
-/// `None` otherwise.
+/// Returns the numbered rows of a graph if, by estimate, half steps are much cheaper than whole steps when `moving`
+/// pairs of states have moves, and `None` otherwise.
 fn rows_for_halves(alloc: Global, g: &Multigraph, moving: u64) -> Result<Option<Rows>, OutOfMemory>
     ensures { IfOk result (λ o. IfSome o (λ r. AreRows g.now r.numbers.items r.owners.items)) }
 {
@@ -104,11 +109,12 @@ fn rows_for_halves(alloc: Global, g: &Multigraph, moving: u64) -> Result<Option<
     }
 }
 
-/// Finds the parts by whole steps: each step takes a move of the first copy together with a move of the second.
+/// Returns the parts of the product in which only the pairs marked in `moving` move, found by whole steps.
 fn whole_parts(alloc: Global, g: &Multigraph, moving: &[bool]) -> Result<Parts, OutOfMemory>
     requires { length moving.now ≡ g.now.states * g.now.states }
     ensures { IfOk result (IsParts (marked_moves (edges_of g.now) g.now.states moving.now) (g.now.states * g.now.states)) }
 {
+    // Reading the number of states tells the prover that the graph is well formed.
     let _states = g.states();
     let letters = letters_of(alloc, g)?;
     let repeats = repeats_of(alloc, g, &letters)?;
@@ -124,7 +130,8 @@ fn whole_parts(alloc: Global, g: &Multigraph, moving: &[bool]) -> Result<Parts, 
     Ok(parts)
 }
 
-/// Finds the parts by half steps: a move of the second copy, followed by a move of the first.
+/// Returns the parts of the product in which only the pairs marked in `moving` move, found by half steps. `rows` has
+/// the numbered rows of the graph.
 fn half_parts(
     alloc: Global,
     g: &Multigraph,
@@ -146,10 +153,11 @@ fn half_parts(
     Ok(cut)
 }
 
-/// Finds the parts of the product of two copies of a graph in which only the marked pairs move. The time is linear in the
-/// number of pairs of states plus the number of pairs of moves on the same letter. If there are far more pairs of moves
-/// than pairs of a state and a move, the time is linear in the number of pairs of a state and a move plus the number of
-/// half nodes, one for each pair of a state and a distinct row.
+/// Returns the parts, that is, the strongly connected components, of the product of two copies of `g` in which only
+/// marked pairs have moves. In a graph with `n` states, the pair of the states `p` and `q` is the state `p * n + q` of
+/// the product, and it is marked if `moving[p * n + q]` is true. `moving` must have `n * n` flags. The flag of a pair
+/// says nothing about moves to it. If by estimate that is much cheaper, the search moves the two copies one after the
+/// other (half steps) instead of together.
 ///
 /// # Errors
 /// [`OutOfMemory`] if there is not enough memory for the search or the parts.
@@ -163,7 +171,9 @@ pub fn pair_parts(alloc: Global, g: &Multigraph, moving: &[bool]) -> Result<Part
     }
 }
 
-/// Finds the parts of the product of two copies of a graph, at the cost of [`pair_parts`] with all pairs marked.
+/// Returns the parts, that is, the strongly connected components, of the product of two copies of `g`, found as by
+/// [`pair_parts`] with all pairs marked. In a graph with `n` states, the pair of the states `p` and `q` is the state
+/// `p * n + q` of the product.
 ///
 /// # Errors
 /// [`OutOfMemory`] if there is not enough memory for the search or the parts.

@@ -1,10 +1,10 @@
-//! The parts of a graph, found by Gabow's path-based search (2000).
+//! The parts of a graph, that is, its strongly connected components, found by Gabow's path-based search (2000).
 
 ghost use Rattle.std.specs.Prelude.{◌≡◌, ◌<◌, ◌≤◌, ◌+◌, ◌^◌, ◌↔◌, ℕ, [], length, IfOk, OnOk, IfSome, IfNone, IsTrue, All, map, false, slice_index_or};
 ghost use Rattle.rl_graph.specs.Paths.{Has, Reaches, OnCycle};
 ghost use Rattle.rl_graph.specs.Parts.{number_of, cycle_of, IsParts};
 ghost use Rattle.rl_graph.specs.internal.InnerMoves.{HasInner, HasInnerOn, IsNumbered, AreInner, AreShared};
-ghost use Rattle.rl_graph.specs.internal.Search.{stand_of, start_of, opened, place_of, part_in, unseen, with_top, IsSearch, IsCut, IsClosed, IsFinished, IsListed, IsAllDone, IsUnseenMove, IsPast, IsMet, IsKept, StaysSeen, IsVisited, closed_alone, work_of};
+ghost use Rattle.rl_graph.specs.internal.Search.{search_state_of, start_of, opened, place_of, part_in, unseen, with_top, IsSearch, IsCut, IsClosed, IsFinished, IsListed, IsAllDone, IsUnseenMove, IsPast, IsMet, IsKept, StaysSeen, IsVisited, closed_alone, work_of};
 ghost use Rattle.rl_graph.specs.declared.parts.SearchPlace.TheVariants.{Unseen, Done};
 
 use crate::moves::NextStates;
@@ -12,17 +12,18 @@ use rl_lists::OutOfMemory;
 use std::alloc::Global;
 use std::marker::Model;
 
-/// What the search knows of a state.
+/// How far the search has come with a state.
 #[derive(Clone, Copy)]
 enum SearchPlace {
+    /// Not met yet.
     Unseen,
-    /// On the stack of open states, at this depth.
+    /// On the stack of open states, at this index from 0, which is its depth.
     Open(u64),
     /// In the part with this number.
     Done(u64),
 }
 
-/// An open state, and the letter and number of its next move.
+/// An open state with its depth, and the letter and the number of its next move to look at.
 #[derive(Clone, Copy)]
 struct Frame {
     state: u64,
@@ -31,8 +32,9 @@ struct Frame {
     number: u64,
 }
 
-/// The state of the search: what is known of each state, the stack of open states, the depths at which their groups
-/// begin, the open states that still have moves to look at, and the number of finished parts.
+/// The state of the search: how far it has come with each state, the stack of open states, the depths at which the
+/// groups of the stack begin (`marks`), the open states that still have moves to look at (`frames`), and the number of
+/// finished parts. The states of a group reach one another.
 #[derive(Drop)]
 struct PartSearch {
     places: Vec<SearchPlace>,
@@ -43,9 +45,9 @@ struct PartSearch {
 }
 
 impl PartSearch {
-    /// Starts a search over `count` states, none of which is seen.
+    /// Returns a search over `count` states, all of which are unseen.
     fn new(alloc: Global, count: u64) -> Result<PartSearch, OutOfMemory>
-        ensures { IfOk result (λ s. stand_of s ≡ start_of count) }
+        ensures { IfOk result (λ s. search_state_of s ≡ start_of count) }
     {
         let places = vec![in alloc; SearchPlace::Unseen; count as usize]?;
         Ok(PartSearch {
@@ -57,10 +59,10 @@ impl PartSearch {
         })
     }
 
-    /// Pushes a state onto the stack, as a group of its own, with a frame.
+    /// Pushes a state onto the stack, as a group of its own, with a frame that begins with its first move.
     fn open(&mut self, state: u64) -> Result<(), OutOfMemory>
-        requires { state < length (stand_of self.old).places }
-        ensures { OnOk result (stand_of self.new ≡ opened (stand_of self.old) state) }
+        requires { state < length (search_state_of self.old).places }
+        ensures { OnOk result (search_state_of self.new ≡ opened (search_state_of self.old) state) }
     {
         let depth = self.open_states.len() as u64;
         self.open_states.push(state)?;
@@ -75,12 +77,12 @@ impl PartSearch {
         Ok(())
     }
 
-    /// Pops the open states from the depth `from` on, and makes them the next part.
+    /// Removes the open states at the depth `from` and above from the stack, and makes them the next part.
     fn close(&mut self, from: u64)
-        requires listed { IsListed (stand_of self.old) }
-        requires within { from ≤ length (stand_of self.old).open_states }
-        requires room { (stand_of self.old).parts < 2 ^ 63 }
-        ensures { IsClosed from (stand_of self.old) (stand_of self.new) }
+        requires listed { IsListed (search_state_of self.old) }
+        requires within { from ≤ length (search_state_of self.old).open_states }
+        requires room { (search_state_of self.old).parts < 2 ^ 63 }
+        ensures { IsClosed from (search_state_of self.old) (search_state_of self.new) }
     {
         let part = self.parts;
         for depth in from as usize..self.open_states.len() {
@@ -91,13 +93,13 @@ impl PartSearch {
         self.parts += 1;
     }
 
-    /// Finishes an open state that has no moves left to look at. If the last group begins with this state, the group is
-    /// closed.
+    /// Finishes the open state at `depth`, which has no moves left to look at. If the last group begins with this
+    /// state, the group becomes the next part; otherwise nothing changes.
     fn finish(&mut self, depth: u64)
-        requires listed { IsListed (stand_of self.old) }
-        requires within { depth ≤ length (stand_of self.old).open_states }
-        requires room { (stand_of self.old).parts < 2 ^ 63 }
-        ensures { IsFinished depth (stand_of self.old) (stand_of self.new) }
+        requires listed { IsListed (search_state_of self.old) }
+        requires within { depth ≤ length (search_state_of self.old).open_states }
+        requires room { (search_state_of self.old).parts < 2 ^ 63 }
+        ensures { IsFinished depth (search_state_of self.old) (search_state_of self.new) }
     {
         if self.marks.last().copied() == Some(depth) {
             self.marks.pop();
@@ -105,10 +107,10 @@ impl PartSearch {
         }
     }
 
-    /// Whether a state is unseen. If it is open, its group is joined with all later groups.
+    /// Returns whether the state `target` is unseen. If it is open, all later groups are joined to its group.
     fn meet(&mut self, target: u64) -> bool
-        requires { target < length (stand_of self.old).places }
-        ensures { IsMet target (stand_of self.old) (stand_of self.new) result }
+        requires { target < length (search_state_of self.old).places }
+        ensures { IsMet target (search_state_of self.old) (search_state_of self.new) result }
     {
         match self.places[target as usize] {
             SearchPlace::Unseen => true,
@@ -120,18 +122,20 @@ impl PartSearch {
         }
     }
 
-    /// Looks at the moves of the frame's state on the frame's letter, up to the first one to an unseen state, and returns
-    /// that state. A move to an open state joins that state's group with all later groups.
+    /// Looks at the moves of the frame's state on the frame's letter, from the frame's next move up to the first one to
+    /// an unseen state, and returns that state, or `None` if there is no such move. A move to an open state joins all
+    /// later groups to that state's group.
     fn scan<M: NextStates>(&mut self, m: &M, frame: &mut Frame) -> Option<u64>
         requires letter_in { frame.old.letter < M.width m.now }
-        requires search { IsSearch (M.next m.now) (M.size m.now) (with_top (stand_of self.old) frame.old) }
-        ensures search { IsSearch (M.next m.now) (M.size m.now) (with_top (stand_of self.new) frame.new) }
-        ensures kept { IsKept (stand_of self.old) (stand_of self.new) }
+        requires search { IsSearch (M.next m.now) (M.size m.now) (with_top (search_state_of self.old) frame.old) }
+        ensures search { IsSearch (M.next m.now) (M.size m.now) (with_top (search_state_of self.new) frame.new) }
+        ensures kept { IsKept (search_state_of self.old) (search_state_of self.new) }
         ensures state { frame.new.state ≡ frame.old.state }
         ensures letter { frame.new.letter ≡ frame.old.letter }
-        ensures found { IfSome result (λ w. IsUnseenMove (M.next m.now) (M.size m.now) (stand_of self.new) frame.new w) }
+        ensures found { IfSome result (λ w. IsUnseenMove (M.next m.now) (M.size m.now) (search_state_of self.new) frame.new w) }
         ensures end { IfNone result (length (M.next m.now frame.new.state frame.new.letter) ≤ frame.new.number) }
     {
+        // Reading the number of states tells the prover that it fits in 64 bits, and that all moves lead to states.
         let _states = m.states();
         let count = m.count(frame.state, frame.letter);
         while frame.number < count {
@@ -144,15 +148,17 @@ impl PartSearch {
         None
     }
 
-    /// Looks at the moves of the frame's state, beginning with the frame's next move, up to the first one to an unseen
-    /// state, and returns that state.
+    /// Looks at the moves of the frame's state, from the frame's next move up to the first one to an unseen state, and
+    /// returns that state, or `None` if there is no such move. A move to an open state joins all later groups to that
+    /// state's group.
     fn advance<M: NextStates>(&mut self, m: &M, frame: &mut Frame) -> Option<u64>
-        requires search { IsSearch (M.next m.now) (M.size m.now) (with_top (stand_of self.old) frame.old) }
-        ensures search { IsSearch (M.next m.now) (M.size m.now) (with_top (stand_of self.new) frame.new) }
-        ensures kept { IsKept (stand_of self.old) (stand_of self.new) }
-        ensures found { IfSome result (λ w. IsUnseenMove (M.next m.now) (M.size m.now) (stand_of self.new) frame.new w) }
+        requires search { IsSearch (M.next m.now) (M.size m.now) (with_top (search_state_of self.old) frame.old) }
+        ensures search { IsSearch (M.next m.now) (M.size m.now) (with_top (search_state_of self.new) frame.new) }
+        ensures kept { IsKept (search_state_of self.old) (search_state_of self.new) }
+        ensures found { IfSome result (λ w. IsUnseenMove (M.next m.now) (M.size m.now) (search_state_of self.new) frame.new w) }
         ensures end { IfNone result (IsPast (M.next m.now) frame.new) }
     {
+        // Reading the number of states tells the prover that it fits in 64 bits, and that all moves lead to states.
         let _states = m.states();
         let end = m.end_letter(frame.state);
         while frame.letter < end {
@@ -166,13 +172,15 @@ impl PartSearch {
         None
     }
 
-    /// Looks at the moves of the frame's state: opens the first unseen target, or finishes the state if there is none.
+    /// Goes on with a frame that was taken from the top: opens the first unseen target of its moves and puts the frame
+    /// back below it, or finishes the state if there is no such target.
     fn step<M: NextStates>(&mut self, m: &M, mut frame: Frame) -> Result<(), OutOfMemory>
-        requires search { IsSearch (M.next m.now) (M.size m.now) (with_top (stand_of self.old) frame) }
-        ensures search { OnOk result (IsSearch (M.next m.now) (M.size m.now) (stand_of self.new)) }
-        ensures seen { OnOk result (StaysSeen (stand_of self.old) (stand_of self.new)) }
-        ensures work { OnOk result (work_of (stand_of self.new) ≤ work_of (stand_of self.old)) }
+        requires search { IsSearch (M.next m.now) (M.size m.now) (with_top (search_state_of self.old) frame) }
+        ensures search { OnOk result (IsSearch (M.next m.now) (M.size m.now) (search_state_of self.new)) }
+        ensures seen { OnOk result (StaysSeen (search_state_of self.old) (search_state_of self.new)) }
+        ensures work { OnOk result (work_of (search_state_of self.new) ≤ work_of (search_state_of self.old)) }
     {
+        // Reading the number of states tells the prover that it fits in 64 bits, and that all moves lead to states.
         let _states = m.states();
         match self.advance(m, &mut frame) {
             Some(state) => {
@@ -184,12 +192,12 @@ impl PartSearch {
         Ok(())
     }
 
-    /// Looks at the moves of the open states until no state is open.
+    /// Goes on with the topmost frame until there are no frames.
     fn run<M: NextStates>(&mut self, m: &M) -> Result<(), OutOfMemory>
-        requires search { IsSearch (M.next m.now) (M.size m.now) (stand_of self.old) }
-        ensures search { OnOk result (IsSearch (M.next m.now) (M.size m.now) (stand_of self.new)) }
-        ensures frames { OnOk result ((stand_of self.new).frames ≡ []) }
-        ensures seen { OnOk result (StaysSeen (stand_of self.old) (stand_of self.new)) }
+        requires search { IsSearch (M.next m.now) (M.size m.now) (search_state_of self.old) }
+        ensures search { OnOk result (IsSearch (M.next m.now) (M.size m.now) (search_state_of self.new)) }
+        ensures frames { OnOk result ((search_state_of self.new).frames ≡ []) }
+        ensures seen { OnOk result (StaysSeen (search_state_of self.old) (search_state_of self.new)) }
     {
         while let Some(frame) = self.frames.pop() {
             self.step(m, frame)?;
@@ -197,26 +205,28 @@ impl PartSearch {
         Ok(())
     }
 
-    /// Makes an unseen state without moves the next part, as its only state.
+    /// Makes a state without moves the next part, as its only state.
     fn close_alone(&mut self, state: u64)
-        requires state_in { state < length (stand_of self.old).places }
-        requires room { (stand_of self.old).parts < 2 ^ 63 }
-        ensures { stand_of self.new ≡ closed_alone (stand_of self.old) state }
+        requires state_in { state < length (search_state_of self.old).places }
+        requires room { (search_state_of self.old).parts < 2 ^ 63 }
+        ensures { search_state_of self.new ≡ closed_alone (search_state_of self.old) state }
     {
         self.places[state as usize] = SearchPlace::Done(self.parts);
         self.parts += 1;
     }
 
-    /// Searches from an unseen state while no state is open. A state without moves is finished at once.
+    /// Searches from the unseen state `root`, while there are no frames. Afterwards `root` and all states that it
+    /// reaches are done.
     fn visit<M: NextStates>(&mut self, m: &M, root: u64) -> Result<(), OutOfMemory>
-        requires search { IsSearch (M.next m.now) (M.size m.now) (stand_of self.old) }
-        requires frames { (stand_of self.old).frames ≡ [] }
+        requires search { IsSearch (M.next m.now) (M.size m.now) (search_state_of self.old) }
+        requires frames { (search_state_of self.old).frames ≡ [] }
         requires root_in { root < M.size m.now }
-        requires not_seen { place_of (stand_of self.old) root ≡ Unseen }
-        ensures search { OnOk result (IsSearch (M.next m.now) (M.size m.now) (stand_of self.new)) }
-        ensures frames { OnOk result ((stand_of self.new).frames ≡ []) }
-        ensures visited { OnOk result (IsVisited root (stand_of self.old) (stand_of self.new)) }
+        requires not_seen { place_of (search_state_of self.old) root ≡ Unseen }
+        ensures search { OnOk result (IsSearch (M.next m.now) (M.size m.now) (search_state_of self.new)) }
+        ensures frames { OnOk result ((search_state_of self.new).frames ≡ []) }
+        ensures visited { OnOk result (IsVisited root (search_state_of self.old) (search_state_of self.new)) }
     {
+        // Reading the number of states tells the prover that it fits in 64 bits, and that all moves lead to states.
         let _states = m.states();
         if m.end_letter(root) == 0 {
             self.close_alone(root);
@@ -227,7 +237,7 @@ impl PartSearch {
     }
 }
 
-/// Returns the number of the part in a search place, or 0 if the state isn't done.
+/// Returns the number of a state's part, or 0 if the state isn't done.
 fn part_in(place: SearchPlace) -> u64
     ensures { result ≡ part_in place }
 {
@@ -237,10 +247,10 @@ fn part_in(place: SearchPlace) -> u64
     }
 }
 
-/// Searches a whole graph, so that every state is done.
+/// Returns the search over a whole graph at its end: every state is done.
 fn searched<M: NextStates>(alloc: Global, m: &M) -> Result<PartSearch, OutOfMemory>
-    ensures search { IfOk result (λ s. IsSearch (M.next m.now) (M.size m.now) (stand_of s)) }
-    ensures done { IfOk result (λ s. IsAllDone (M.size m.now) (stand_of s)) }
+    ensures search { IfOk result (λ s. IsSearch (M.next m.now) (M.size m.now) (search_state_of s)) }
+    ensures done { IfOk result (λ s. IsAllDone (M.size m.now) (search_state_of s)) }
 {
     let count = m.states();
     let mut search = PartSearch::new(alloc, count)?;
@@ -252,7 +262,7 @@ fn searched<M: NextStates>(alloc: Global, m: &M) -> Result<PartSearch, OutOfMemo
     Ok(search)
 }
 
-/// Returns the part numbers in a list of search places.
+/// Returns the part number of each state, or 0 for a state that isn't done.
 fn numbers_in(alloc: Global, places: &[SearchPlace]) -> Result<Vec<u64>, OutOfMemory>
     ensures { IfOk result (λ v. v.items ≡ map part_in places.now) }
 {
@@ -260,7 +270,7 @@ fn numbers_in(alloc: Global, places: &[SearchPlace]) -> Result<Vec<u64>, OutOfMe
     Ok(numbers)
 }
 
-/// Returns the part number of each state.
+/// Returns the part number of each state of a graph.
 fn part_numbers<M: NextStates>(alloc: Global, m: &M) -> Result<Vec<u64>, OutOfMemory>
     ensures { IfOk result (λ v. IsNumbered (M.next m.now) (M.size m.now) v.items) }
 {
@@ -268,7 +278,7 @@ fn part_numbers<M: NextStates>(alloc: Global, m: &M) -> Result<Vec<u64>, OutOfMe
     numbers_in(alloc, &search.places)
 }
 
-/// Whether a state has a move on `letter` to a state with the same number.
+/// Returns whether a state has a move on `letter` to a state with the same part number, which can be itself.
 fn has_inner_on<M: NextStates>(m: &M, numbers: &[u64], state: u64, letter: u32) -> bool
     requires state_in { state < M.size m.now }
     requires letter_in { letter < M.width m.now }
@@ -285,12 +295,13 @@ fn has_inner_on<M: NextStates>(m: &M, numbers: &[u64], state: u64, letter: u32) 
     false
 }
 
-/// Whether a state has a move to a state with the same number.
+/// Returns whether a state has a move to a state with the same part number, which can be itself.
 fn has_inner<M: NextStates>(m: &M, numbers: &[u64], state: u64) -> bool
     requires state_in { state < M.size m.now }
     requires sizes { length numbers.now ≡ M.size m.now }
     ensures { IsTrue result ↔ HasInner (M.next m.now) numbers.now state }
 {
+    // Reading the number of states tells the prover that it fits in 64 bits, and that all moves lead to states.
     let _states = m.states();
     for letter in 0..m.end_letter(state) {
         if has_inner_on(m, numbers, state, letter) {
@@ -300,8 +311,8 @@ fn has_inner<M: NextStates>(m: &M, numbers: &[u64], state: u64) -> bool
     false
 }
 
-/// Marks the part numbers that at least two states share. Part numbers are less than the number of states, so there are
-/// as many marks as states.
+/// Returns a flag for each part number, which says whether at least two states have that number. `numbers` has the part
+/// number of each state. Part numbers are less than the number of states, so there are as many flags as states.
 fn shared_marks(alloc: Global, numbers: &[u64]) -> Result<Vec<bool>, OutOfMemory>
     requires { All (λ part. part < length numbers.now) numbers.now }
     ensures { IfOk result (λ v. AreShared numbers.now v.items) }
@@ -318,14 +329,15 @@ fn shared_marks(alloc: Global, numbers: &[u64]) -> Result<Vec<bool>, OutOfMemory
     Ok(shared)
 }
 
-/// Whether a state has a move to a state with the same number. If other states share its number, it has one. Otherwise
-/// only a move to itself can be one, so its moves are looked at only if it may have a move to itself.
+/// Returns whether a state has a move to a state with the same part number. It has one if another state has its number.
+/// Otherwise only a move to itself is one, and its moves are looked at only if it may have such a move.
 fn is_inner<M: NextStates>(m: &M, numbers: &[u64], shared: &[bool], state: u64) -> bool
     requires state_in { state < M.size m.now }
     requires numbered { IsNumbered (M.next m.now) (M.size m.now) numbers.now }
     requires marked { AreShared numbers.now shared.now }
     ensures { IsTrue result ↔ HasInner (M.next m.now) numbers.now state }
 {
+    // Reading the number of states tells the prover that it fits in 64 bits, and that all moves lead to states.
     let _states = m.states();
     if shared[numbers[state as usize] as usize] {
         return true;
@@ -333,7 +345,8 @@ fn is_inner<M: NextStates>(m: &M, numbers: &[u64], shared: &[bool], state: u64) 
     m.may_loop(state) && has_inner(m, numbers, state)
 }
 
-/// Returns, for each state, whether it has a move to a state with the same number.
+/// Returns, for each state, whether it has a move to a state with the same part number. This is so if and only if the
+/// state lies on a cycle.
 fn inner_marks<M: NextStates>(
     alloc: Global,
     m: &M,
@@ -370,7 +383,8 @@ impl Model for Parts {
 }
 
 impl Parts {
-    /// Creates a table from the part number and the cycle mark of each state.
+    /// Returns the table with the part number of each state and a flag for each state that says whether it lies on a
+    /// cycle.
     pub(crate) fn new(numbers: Vec<u64>, cycles: Vec<bool>) -> Parts
         requires { length cycles.items ≡ length numbers.items }
         ensures { result ≡ record { numbers = numbers.items; cycles = cycles.items } }
@@ -378,8 +392,8 @@ impl Parts {
         Parts { numbers, cycles }
     }
 
-    /// Returns the number of a state's part, which is less than the number of states. A part that is reached from another
-    /// one has the smaller number.
+    /// Returns the number of the part of `state`, which must be a state of the graph. The number is less than the
+    /// number of states. A part that is reached from another one has the smaller number.
     pub fn of(&self, state: u64) -> u64
         requires { state < length self.now.numbers }
         ensures { result ≡ number_of self.now state }
@@ -387,7 +401,7 @@ impl Parts {
         self.numbers[state as usize]
     }
 
-    /// Whether a state reaches itself by one move or more.
+    /// Returns whether `state`, which must be a state of the graph, reaches itself by at least one move.
     pub fn on_cycle(&self, state: u64) -> bool
         requires { state < length self.now.numbers }
         ensures { result ≡ cycle_of self.now state }
@@ -396,20 +410,24 @@ impl Parts {
     }
 }
 
-/// Finds the parts of a graph by Gabow's path-based search (2000), in time and memory linear in its states and moves.
+/// Returns the parts of a graph, found by Gabow's path-based search (2000). The number of calls of `m` is linear in the
+/// number of moves plus the product of the numbers of states and letters, and the memory is linear in the number of
+/// states.
 ///
 /// # Errors
 /// [`OutOfMemory`] if there is not enough memory for the search or the parts.
 pub fn parts_of<M: NextStates>(alloc: Global, m: &M) -> Result<Parts, OutOfMemory>
     ensures { IfOk result (λ p. IsParts (M.next m.now) (M.size m.now) p) }
 {
+    // Reading the number of states tells the prover that it fits in 64 bits, and that all moves lead to states.
     let _states = m.states();
     let numbers = part_numbers(alloc, m)?;
     let cycles = inner_marks(alloc, m, &numbers)?;
     Ok(Parts { numbers, cycles })
 }
 
-/// Removes the marks above `depth`, which joins their groups to the group that contains `depth`.
+/// Removes the marks greater than `depth` from the end of the list. This joins their groups to the group that contains
+/// `depth`.
 fn cut(marks: &mut Vec<u64>, depth: u64)
     ensures { IsCut depth marks.old.items marks.new.items }
 {

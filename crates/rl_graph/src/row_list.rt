@@ -1,25 +1,25 @@
-//! Lists of rows of numbers, which share one block of memory as long as they are written in order.
+//! Lists of rows of numbers, which share one block of memory if they are written in order.
 
 ghost use Rattle.std.specs.Prelude.{◌≡◌, ◌<◌, ◌≤◌, ◌^◌, [], ◌∷◌, ◌++◌, true, false, All, drop, length, replicate, set, slice_index_or, IfOk, OnOk, OnErr};
-ghost use Rattle.rl_graph.specs.internal.GrownRows.{Holds, IsGrown, IsPlaced, StandsIn};
+ghost use Rattle.rl_graph.specs.internal.GrownRows.{IsFilledRowAt, IsGrown, IsPlaced, IsRowAt};
 
 use rl_lists::{Items, OutOfMemory};
 use std::alloc::Global;
 use std::marker::Model;
 
-/// The largest number of entries in a row.
+/// The largest number of numbers in a row: 2^32 - 1.
 const MOST: usize = 4_294_967_295;
 
-/// The part of the numbers that a row occupies: from `start` up to, but not including, `end`.
+/// The range of the shared numbers that a row occupies: from `start` up to, but not including, `end`.
 #[derive(Clone, Copy)]
 struct Span {
     start: usize,
     end: usize,
 }
 
-/// A list of rows of numbers, stored one after another in one block of memory. A row that grows after a later row was
-/// begun is moved, once, to a block of its own that grows by doubling. So the memory is proportional to the amount of
-/// numbers, whatever the order in which they are added.
+/// A list of rows of numbers, stored one after another in one block of memory. If a row grows after numbers of another
+/// row were stored behind it, it is moved, once, to a block of its own that grows by doubling. So the memory is
+/// proportional to the number of numbers and rows, in whatever order the numbers are added.
 #[derive(Drop)]
 pub struct RowList {
     spans: Vec<Span>,
@@ -40,7 +40,7 @@ impl Model for RowList {
 }
 
 impl RowList {
-    /// Creates an empty list. It allocates memory only when it grows.
+    /// Returns an empty list. It allocates memory only when it grows.
     pub fn new(alloc: Global) -> RowList
         ensures { result ≡ [] }
     {
@@ -51,7 +51,7 @@ impl RowList {
         }
     }
 
-    /// Creates a list of `count` empty rows.
+    /// Returns a list of `count` empty rows.
     ///
     /// # Errors
     /// [`OutOfMemory`] if there is not enough memory for the rows.
@@ -69,7 +69,7 @@ impl RowList {
         })
     }
 
-    /// Appends a row.
+    /// Appends a row, with a copy of the numbers of `row`, at the end of the list.
     ///
     /// # Errors
     /// [`OutOfMemory`] if there is not enough memory for the row, or if the row has 2^32 numbers or more; the list is
@@ -86,7 +86,7 @@ impl RowList {
         Ok(())
     }
 
-    /// Appends a number to the row at `place`.
+    /// Appends a number to the row with the index `place`, which must exist and have fewer than 2^32 - 1 numbers.
     ///
     /// # Errors
     /// [`OutOfMemory`] if there is not enough memory for the number; the list is then unchanged.
@@ -126,7 +126,7 @@ impl RowList {
         self.spans.len()
     }
 
-    /// Returns the row at `place`. Past the last row, the result is empty.
+    /// Returns the row with the index `place`. Past the last row, the result is empty.
     pub(crate) fn row(&self, place: usize) -> &[u32]
         ensures { result.now ≡ slice_index_or self.now place [] }
     {
@@ -149,10 +149,10 @@ impl RowList {
     }
 }
 
-/// Appends a row to the numbers, and returns its span.
+/// Appends a row to the shared numbers, and returns its span. On an error, the old numbers are still in place.
 fn append(numbers: &mut Vec<u32>, row: &[u32]) -> Result<Span, OutOfMemory>
     ensures grown { IsGrown numbers.old.items numbers.new.items }
-    ensures row { IfOk result (StandsIn numbers.new.items row.now) }
+    ensures row { IfOk result (IsRowAt numbers.new.items row.now) }
 {
     let start = numbers.len();
     numbers.extend_from_slice(row)?;
@@ -162,11 +162,12 @@ fn append(numbers: &mut Vec<u32>, row: &[u32]) -> Result<Span, OutOfMemory>
     })
 }
 
-/// Appends a number to the row that begins at `start` and ends with the last number, and returns its new span.
+/// Appends a number to the shared numbers, and returns the span from `start` to their end: the row that began at
+/// `start` and ended with the last number has one number more.
 fn lengthened(numbers: &mut Vec<u32>, start: usize, number: u32) -> Result<Span, OutOfMemory>
     requires { start ≤ length numbers.old.items }
     ensures grown { IsGrown numbers.old.items numbers.new.items }
-    ensures row { IfOk result (Holds numbers.new.items (drop start numbers.old.items ++ number ∷ [])) }
+    ensures row { IfOk result (IsFilledRowAt numbers.new.items (drop start numbers.old.items ++ number ∷ [])) }
 {
     numbers.push(number)?;
     Ok(Span {
@@ -175,7 +176,7 @@ fn lengthened(numbers: &mut Vec<u32>, start: usize, number: u32) -> Result<Span,
     })
 }
 
-/// Whether a non-empty row is stored apart at `place`.
+/// Returns whether `apart` has a non-empty row at the index `place`.
 fn stands_apart(apart: &[Items<u32>], place: usize) -> bool
     ensures some { result ≡ true → place < length apart.now }
     ensures none { result ≡ false → slice_index_or apart.now place [] ≡ [] }
@@ -186,7 +187,7 @@ fn stands_apart(apart: &[Items<u32>], place: usize) -> bool
     }
 }
 
-/// Appends a number to the row that is stored apart at `place`.
+/// Appends a number to the row at the index `place` of `apart`.
 fn push_apart(apart: &mut Vec<Items<u32>>, place: usize, number: u32) -> Result<(), OutOfMemory>
     requires { place < length apart.old.items }
     ensures pushed { OnOk result (IsPlaced apart.old.items apart.new.items place (slice_index_or apart.old.items place [] ++ number ∷ [])) }
@@ -195,7 +196,8 @@ fn push_apart(apart: &mut Vec<Items<u32>>, place: usize, number: u32) -> Result<
     apart[place].push(number)
 }
 
-/// Stores a row, with one more number, apart at `place`.
+/// Puts a copy of `row`, with `number` appended, at the index `place` of `apart`. The list is made longer if it has no
+/// such index.
 fn put_apart(
     apart: &mut Vec<Items<u32>>,
     place: usize,
@@ -213,7 +215,7 @@ fn put_apart(
     Ok(())
 }
 
-/// Makes sure that there is a place for a row to be stored apart at `place`.
+/// Appends empty rows to `apart` until it has the index `place`.
 fn make_places(apart: &mut Vec<Items<u32>>, place: usize) -> Result<(), OutOfMemory>
     ensures there { OnOk result (place < length apart.new.items) }
     ensures same { IsPlaced apart.old.items apart.new.items place (slice_index_or apart.old.items place []) }

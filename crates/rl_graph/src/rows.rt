@@ -1,4 +1,4 @@
-//! The distinct rows of a multigraph, each with a number.
+//! Row numbers: equal rows of a multigraph mostly have the same number.
 
 ghost use Rattle.std.specs.Prelude.{◌*◌, IfOk, OnOk, IfSome};
 ghost use Rattle.rl_graph.specs.internal.Halves.{AreMore, AreNumbered, IsOwned};
@@ -8,17 +8,19 @@ use indexmap::IndexMap;
 use rl_lists::OutOfMemory;
 use std::alloc::Global;
 
-/// The multiplier that mixes a target into the hash of a row.
+/// The factor by which [`hash_of`] multiplies the hash after each target.
 const MIXER: u64 = 0x9e37_79b9_7f4a_7c15;
 
-/// The row numbers of a graph: for each place, the number of its row; for each number, a place that has that row.
+/// The row numbers of a graph. `numbers` has a number for each row, at the row's index: the row of the state `q` and
+/// the letter `l` has the index `q * letters + l`. `owners` has, for each row number, the index of a row with that
+/// number. Rows with the same number are equal.
 #[derive(Drop)]
 pub(crate) struct Rows {
     pub(crate) numbers: Vec<u64>,
     pub(crate) owners: Vec<u64>,
 }
 
-/// Returns a hash of the targets of a row.
+/// Returns a hash of the targets of a row. Equal rows have equal hashes.
 fn hash_of(row: &[u32]) -> u64 {
     let mut hash: u64 = 1;
     for target in row {
@@ -27,7 +29,8 @@ fn hash_of(row: &[u32]) -> u64 {
     hash
 }
 
-/// Returns `number` if the row with that number equals the row at `place`, and `None` otherwise.
+/// Returns `number` if its owner is a row that equals the row with the index `place`, and `None` otherwise or if
+/// `number` is `None`.
 fn checked(g: &Multigraph, owners: &[u64], number: Option<u64>, place: u64) -> Option<u64>
     ensures { IfSome result (IsOwned g.now owners.now place) }
 {
@@ -40,8 +43,8 @@ fn checked(g: &Multigraph, owners: &[u64], number: Option<u64>, place: u64) -> O
     }
 }
 
-/// Returns the number of the row at `place`: the number of an equal row, or a new one. Only the last row with a given
-/// hash is remembered, so equal rows may get different numbers.
+/// Returns the number of the row with the index `place`: the number of an equal row before it, or a new one. `kept` has
+/// only the last number given to a row with each hash, so equal rows can get different numbers.
 fn number_of(
     g: &Multigraph,
     owners: &mut Vec<u64>,
@@ -61,7 +64,7 @@ fn number_of(
     Ok(number)
 }
 
-/// Numbers the rows of a graph.
+/// Returns the row numbers of a graph.
 pub(crate) fn rows_of(alloc: Global, g: &Multigraph) -> Result<Rows, OutOfMemory>
     ensures { IfOk result (λ r. AreNumbered g.now (g.now.states * g.now.letters) r.numbers.items r.owners.items) }
 {

@@ -1,4 +1,5 @@
-//! Breadth-first search for shortest words.
+//! Breadth-first search for shortest words. A word is a list of letters. It leads from one state to another if there is
+//! a path between them whose moves have its letters in order.
 
 ghost use Rattle.std.specs.Prelude.{◌≡◌, ◌<◌, ◌≤◌, ◌+◌, length, IfOk, OnOk, IfSome, IfNone};
 ghost use Rattle.rl_graph.specs.Graph.{edges_of};
@@ -10,16 +11,16 @@ use crate::moves::NextStates;
 use rl_lists::{Items, OutOfMemory, Word};
 use std::alloc::Global;
 
-/// A word, and the numbers of the moves of a path along it.
+/// A word, and a path along it.
 #[derive(Drop)]
 pub struct FoundPath {
-    /// The letters.
+    /// The letters of the word.
     pub word: Word,
-    /// The number of each move.
+    /// The number of each move of the path, counted from 0 among the moves of its state and letter.
     pub moves: Items<u64>,
 }
 
-/// A state that the search has found: the place of the node from which it was found, the letter and the number of the
+/// A state that the search has found: the index of the node from which it was found, the letter and the number of the
 /// move from there, and its distance from the first node in moves.
 #[derive(Clone, Copy)]
 struct Node {
@@ -30,8 +31,9 @@ struct Node {
     depth: u64,
 }
 
-/// The nodes in the order in which they were found, a flag for each state that is seen, and the least length of the word:
-/// 0, or 1 if the search looks for a way back to the first node's state.
+/// The nodes in the order in which they were found, a flag for each state that says whether it was found, and the least
+/// length of the word. This is 0, or 1 if the search looks for a way back to the first node's state; that state's flag
+/// is then false until it is found again.
 #[derive(Drop)]
 struct Walk {
     nodes: Vec<Node>,
@@ -40,7 +42,7 @@ struct Walk {
 }
 
 impl Walk {
-    /// Appends a node unless its state is already seen.
+    /// Appends a node and sets the flag of its state, unless that flag is already set.
     fn reach(&mut self, node: Node) -> Result<(), OutOfMemory>
         requires { node.state < length (steps_of self.old).seen }
         ensures { OnOk result (IsReached node (steps_of self.old) (steps_of self.new)) }
@@ -52,7 +54,8 @@ impl Walk {
         Ok(())
     }
 
-    /// Starts a walk at `from` in a graph with `count` states.
+    /// Returns a walk that starts at the state `from` in a graph with `count` states and looks for a word of at least
+    /// `least` letters.
     fn new(alloc: Global, count: u64, from: u64, least: u64) -> Result<Walk, OutOfMemory>
         requires { from < count }
         ensures { IfOk result (λ w. steps_of w ≡ start_steps count from least) }
@@ -72,7 +75,8 @@ impl Walk {
         Ok(Walk { nodes, seen, least })
     }
 
-    /// Finds the targets of a node's moves on a letter.
+    /// Adds nodes for the targets of the moves on `letter` of the node with the index `place`, except for states that
+    /// were already found.
     fn expand_on<M: NextStates>(
         &mut self,
         m: &M,
@@ -100,13 +104,15 @@ impl Walk {
         Ok(())
     }
 
-    /// Finds the targets of a node's moves.
+    /// Adds nodes for the targets of all moves of the node with the index `place`, except for states that were already
+    /// found.
     fn expand<M: NextStates>(&mut self, m: &M, place: u64) -> Result<(), OutOfMemory>
         requires place_in { place < length (steps_of self.old).nodes }
         requires walk { IsWalk (M.next m.now) (M.size m.now) (steps_of self.old) }
         requires stands { IsAt (M.next m.now) place 0 0 (steps_of self.old) }
         ensures { OnOk result (IsFurther (M.next m.now) (M.size m.now) (place + 1) 0 0 (steps_of self.old) (steps_of self.new)) }
     {
+        // Reading the number of states tells the prover that it fits in 64 bits, and that all moves lead to states.
         let _states = m.states();
         for letter in 0..m.letters() {
             self.expand_on(m, place, letter)?;
@@ -114,7 +120,7 @@ impl Walk {
         Ok(())
     }
 
-    /// Returns the path from the first node to the node at `place`.
+    /// Returns the path from the first node to the node with the index `place`.
     fn path_to(&self, alloc: Global, place: u64) -> Result<FoundPath, OutOfMemory>
         requires place_in { place < length (steps_of self.now).nodes }
         requires rooted { IsRooted (steps_of self.now) }
@@ -138,7 +144,8 @@ impl Walk {
     }
 }
 
-/// Returns a shortest word of at least `least` letters from one state to another, with a path along it.
+/// Returns a shortest word of at least `least` letters from one state to another, with a path along it, or `None` if
+/// and only if no such word leads there.
 fn shortest<M: NextStates>(
     alloc: Global,
     m: &M,
@@ -164,8 +171,8 @@ fn shortest<M: NextStates>(
     Ok(None)
 }
 
-/// Returns a shortest word from one state to another, and a path along it, by breadth-first search. The word is empty if
-/// the two states are the same.
+/// Returns a shortest word from `from` to `to`, which must be states of the graph, with a path along it, or `None` if
+/// and only if no word leads there. The word is empty if the two states are the same.
 ///
 /// # Errors
 /// [`OutOfMemory`] if there is not enough memory for the search or the word.
@@ -183,7 +190,8 @@ pub fn path_between<M: NextStates>(
     shortest(alloc, m, from, to, 0)
 }
 
-/// Returns a shortest non-empty word from a state back to itself, and a path along it, by breadth-first search.
+/// Returns a shortest non-empty word from `state`, which must be a state of the graph, back to itself, with a path
+/// along it, or `None` if and only if there is no such word.
 ///
 /// # Errors
 /// [`OutOfMemory`] if there is not enough memory for the search or the word.
@@ -200,8 +208,8 @@ pub fn cycle_through<M: NextStates>(
 }
 
 impl Multigraph {
-    /// Returns a shortest word from one state to another, by breadth-first search, or `None` if and only if no word leads
-    /// there. The word is empty if the two states are the same.
+    /// Returns a shortest word from `from` to `to`, which must be states of the graph, by breadth-first search, or
+    /// `None` if and only if no word leads there. The word is empty if the two states are the same.
     ///
     /// # Errors
     /// [`OutOfMemory`] if there is not enough memory for the search or the word.

@@ -27,7 +27,7 @@ use Rattle.rl_pairs.specs.declared.pair.Pair.{Pair}
 use Rattle.rl_pairs.specs.PairGraph.{IsPairGraph, IsNumbered}
 use Rattle.rl_pairs.specs.Counted.{CountedSet, MoreThan}
 use Rattle.rl_pairs.specs.Families.{Spells, chain_heads}
-use Rattle.rl_pairs.specs.RightVerdict.{Question, IsMachine, IsPassed, IsSmall, HasDegree, IsBounded, RightVerdict}
+use Rattle.rl_pairs.specs.RightVerdict.{Question, IsMachine, IsExceeded, IsSmall, HasDegree, IsBounded, RightVerdict}
 use Rattle.rl_pairs.proofs.SameLaws.{sets-passed}
 use Rattle.rl_pairs.proofs.VerdictLaws.{twin_verdict, chain_verdict, flat_verdict, pairs-within, graph-bounded, graph-within, few-states, bounded_degree, bounded_flat}
 use Rattle.rl_growth.specs.Texts.{HasTexts}
@@ -40,7 +40,7 @@ use Rattle.rl_growth.proofs.RouteLaws.{chained-from}
 pub small : (q : Question) → size q.tree ≤ MOST_NODES → length (letters q.tree (code_count q.universe)) ≤ MOST_LETTERS → longest q.tree ≤ MOST_MOVES → IsSmall q
 small q s l m = record { size = λ h. omega arith; letters = λ h. omega arith; moves = λ h. omega arith }
 
-pub none_passed : (q : Question) (a : Automaton) (next : ℕ → ℕ → List ℕ) (at : ℕ → Pair) (n : ℕ) → IsMachine q a → IsSmall q → IsPairGraph a next at n → n ≤ q.max_pairs → (MoreThan MOST_COUNTED_SETS (CountedSet a) → ⊥) → (limit : Limit) → IsPassed q limit → ⊥
+pub none_passed : (q : Question) (a : Automaton) (next : ℕ → ℕ → List ℕ) (at : ℕ → Pair) (n : ℕ) → IsMachine q a → IsSmall q → IsPairGraph a next at n → n ≤ q.max_pairs → (MoreThan MOST_COUNTED_SETS (CountedSet a) → ⊥) → (limit : Limit) → IsExceeded q limit → ⊥
 none_passed q a next at n machine small g few sets Size h = small.size h
 none_passed q a next at n machine small g few sets Letters h = small.letters h
 none_passed q a next at n machine small g few sets Moves h = small.moves h
@@ -80,7 +80,7 @@ module _ (q : Question) (a : Automaton) (next : ℕ → ℕ → List ℕ) (at : 
       bounded_flat q a next at n machine whole g numbered none
       (λ p u. without_cycle next (bound_n (size q.tree)) (bound_k (size q.tree)) within-bounds none 0 p u some-bound)
 
-  module _ (within : (limit : Limit) → IsPassed q limit → ⊥) (f : Family) where
+  module _ (within : (limit : Limit) → IsExceeded q limit → ⊥) (f : Family) where
     pub twin_right : (p : ℕ) (heads pumps : List (List ℕ)) → IsTwinWords a next at p heads pumps → Spells a f heads pumps → RightVerdict q (Expo f)
     twin_right p heads pumps w spells =
         twin_verdict q a next at n machine whole g within f p w.lead w.round w.last

@@ -1,4 +1,5 @@
--- Chains of splits by their places, and the words along them.
+-- Chains of splits by their places, and the words along them. A split is two different states with paths along one word from
+-- the first to itself, from the first to the second, and from the second to itself.
 use Rattle.std.specs.Prelude.{◌≡◌, ℕ, ◌-◌, ◌<◌, ◌≤◌, List, [], ◌∷◌, map, take, length, slice_index_or, nat_eq, if◌then◌else◌, IfNone}
 use Rattle.rl_graph.specs.Paths.{paths, Reaches}
 use Rattle.rl_graph.specs.Twins.{IsSplit, Link, ChainFrom, IsRank}
@@ -7,7 +8,7 @@ use Rattle.rl_degree.specs.declared.chains.Chain.{Chain}
 use Rattle.rl_degree.specs.Chains.{links_of}
 use Rattle.rl_pairs.specs.Families.{Chained}
 
--- The split at the place `k`.
+-- The split at the place `k`, counted from 0. If there is none, it is one of the state 0 to itself on the empty word.
 abbrev pub split_at : List Split → ℕ → Split
 split_at splits k = slice_index_or splits k (record { from = 0; to = 0; word = [] })
 
@@ -20,11 +21,12 @@ abbrev pub state_after : List Split → ℕ → ℕ
 state_after [] q = q
 state_after (s ∷ splits) q = state_after splits s.to
 
--- The link without the word that leads to it.
+-- The link, which is a split with a word that leads to it, with the empty word in place of that word.
 abbrev pub bare : Link → Link
 bare m = record { lead = []; from = m.from; to = m.to; word = m.word }
 
--- A chain of splits of states below `n`: each split is reached from the state before it.
+-- A chain of splits in a graph of `n` states, with `n` at least 1: the states of the splits are below `n`, the first split is
+-- reached from the state 0, and each later one from the end of the split before it.
 pub record IsRoute (next : ℕ → ℕ → List ℕ) (n : ℕ) (splits : List Split) : Type 0 where
   pub some : 0 < n
   pub from_in : (k : ℕ) → k < length splits → (split_at splits k).from < n
@@ -41,7 +43,8 @@ pub record IsWay (next : ℕ → ℕ → List ℕ) (splits : List Split) (k : �
   pub count : length links ≡ k
   pub ends : map bare links ≡ links_of (take k splits)
 
--- `c` has a longest chain of splits and the rank of each of the `n` states. It has no cycle only if the graph has none.
+-- `c` has a chain of splits from the state 0 that is a longest one from any of the `n` states, and the rank of each state,
+-- which is the length of a longest chain of splits from it. `c` has no cycle only if the graph has none.
 pub record IsLongest (next : ℕ → ℕ → List ℕ) (n : ℕ) (c : Chain) : Type 0 where
   pub route : IsRoute next n c.links
   pub longest : (s : ℕ) (ms : List Link) → s < n → ChainFrom next s ms → length ms ≤ length c.links

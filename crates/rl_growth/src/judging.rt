@@ -1,4 +1,8 @@
-//! Verdicts, found from the graph of live pairs.
+//! Verdicts, found from the graph of live pairs. A pair is a state of the automaton with a set: the states that were tried
+//! before it. A rest is a list of letters followed by the end letter; a set refuses it if none of its members accepts it. A
+//! live pair is the first pair, or a pair whose set refuses some rest and to which a live pair has a move. A chain is a list
+//! of splits, each of which is reached from the one before it; a split is two different pairs with paths along one word from
+//! the first to itself, from the first to the second, and from the second to itself.
 
 ghost use Rattle.std.specs.Prelude.{◌≡◌, ℕ, ◌<◌, ◌≤◌, [], ◌∷◌, IfOk};
 ghost use Rattle.rl_graph.specs.Graph.{edges_of};
@@ -95,16 +99,21 @@ fn judged(alloc: Global, a: &Prio, g: &PairGraph) -> Result<Verdict, OutOfMemory
     }
 }
 
-/// Determines how the cost of a lowered pattern grows with the length of a text of the universe, using at most `max_pairs`
-/// live pairs, by the EDA and IDA criteria of Weber and Seidl (1991) on the graph of live pairs.
+/// Determines how the cost of a lowered pattern grows with the length of a text of the universe `u`, using at most `max_pairs`
+/// live pairs, by the EDA and IDA criteria of Weber and Seidl (1991) on the graph of live pairs. `max_pairs` must be from 1 to
+/// [`MOST_PAIRS`](rl_syntax::MOST_PAIRS), and the sets of the pattern must have only codes of the universe.
 ///
-/// The degree is exact: the text of the family for `k` costs at least this power of `k`, and every text costs at most a
-/// constant, which depends only on the degree and the size of the tree, times this power of its length plus one. The degree
-/// is 0 if no live pair is on a cycle, and otherwise one more than the number of splits of the longest chain.
-/// [`Verdict::Undecided`] names a limit that is exceeded: the tree has more than [`MOST_NODES`] nodes, more than
-/// [`MOST_LETTERS`](rl_syntax::MOST_LETTERS) letters or an item list of more than [`MOST_MOVES`](rl_syntax::MOST_MOVES)
-/// items, or there are more than `max_pairs` live pairs or more than [`MOST_COUNTED_SETS`](rl_syntax::MOST_COUNTED_SETS)
-/// counted sets.
+/// Returns [`Verdict::Undecided`] with a limit that is exceeded, if one is: the tree has more than [`MOST_NODES`] nodes;
+/// otherwise, more than [`MOST_LETTERS`](rl_syntax::MOST_LETTERS) letters; otherwise, an item list of more than
+/// [`MOST_MOVES`](rl_syntax::MOST_MOVES) items; otherwise, there are more than `max_pairs` live pairs or more than
+/// [`MOST_COUNTED_SETS`](rl_syntax::MOST_COUNTED_SETS) counted sets, which are the sets of the pairs to which live pairs have
+/// moves, and the images of counted sets without the accepting state.
+///
+/// Otherwise returns [`Verdict::Expo`] if some live pair has two different paths back to itself along one word: the text of
+/// the family for `k` costs at least `2^k`. Otherwise returns [`Verdict::Degree`]: 0 if no live pair is on a cycle, and
+/// otherwise one more than the number of splits of a longest chain. The degree is exact: the text of the family for `k` costs
+/// at least this power of `k`, and every text costs at most a constant, which depends only on the degree and the size of the
+/// tree, times this power of its length plus one.
 ///
 /// # Errors
 /// [`OutOfMemory`] if there is not enough memory for the automaton, the graph or the family.

@@ -1,4 +1,5 @@
-//! Spelling words of letters as texts of sample codes.
+//! Spelling words of letters as texts of sample codes. A word is a list of letters of the automaton; the sample code of a
+//! letter is one of its codes.
 
 ghost use Rattle.std.specs.Prelude.{◌≡◌, ◌<◌, map, All, IfOk};
 ghost use Rattle.rl_prio.specs.Automaton.{letters_count};
@@ -36,7 +37,8 @@ fn spell_all(alloc: Global, a: &Prio, words: &[Word]) -> Result<Texts, OutOfMemo
     Ok(texts)
 }
 
-/// Returns the family whose heads and pumps are the sample codes of the letters of the given words.
+/// Returns the family whose heads and pumps are the sample codes of the letters of the given words. The words must consist of
+/// letters other than the end letter, which has no sample.
 ///
 /// # Errors
 /// [`OutOfMemory`] if there is not enough memory for the texts.

@@ -1,4 +1,9 @@
-//! The words of families, as letters of an automaton.
+//! The words of families, as letters of an automaton. A pair is a state of the automaton with a set: the states that were
+//! tried before it. A rest is a list of letters followed by the end letter; a set refuses it if none of its members accepts
+//! it. A live pair is the first pair, or a pair whose set refuses some rest and to which a live pair has a move. A twin is two
+//! different paths from a pair back to itself along one word. A split is two different pairs with paths along one word from
+//! the first to itself, from the first to the second, and from the second to itself. The graph has for each live pair a lead,
+//! which is a word that leads to it from the first pair, and a rest that its set refuses.
 
 ghost use Rattle.std.specs.Prelude.{◌≡◌, ℕ, ◌+◌, ◌-◌, ◌<◌, ◌≤◌, [], ◌∷◌, ◌++◌, length, take, IfOk, OnOk};
 ghost use Rattle.rl_graph.specs.Paths.{paths};
@@ -53,7 +58,7 @@ fn copy(alloc: Global, word: &Word) -> Result<Word, OutOfMemory>
     Items::from_slice(alloc, word.as_slice())
 }
 
-/// Returns the rest that the set of a live pair refuses, without the end letter.
+/// Returns the rest that the set of the live pair with the number `state` refuses, without the end letter.
 fn last_head(alloc: Global, g: &PairGraph, state: u32) -> Result<Word, OutOfMemory>
     requires state_in { state < g.now.graph.states }
     requires some { 0 < length (rest_in g.now state) }
@@ -63,7 +68,9 @@ fn last_head(alloc: Global, g: &PairGraph, state: u32) -> Result<Word, OutOfMemo
     Items::from_slice(alloc, &rest[..rest.len() - 1])
 }
 
-/// Returns the words of a twin: a word that leads to its state, its own word, and the word that the set of its state refuses.
+/// Returns the words of `twin`, which must be a twin of the graph. The heads are the lead of its state, and the rest that the
+/// set of its state refuses, without the end letter; the only pump is the word of the twin. The rests of the graph must not be
+/// empty.
 ///
 /// # Errors
 /// [`OutOfMemory`] if there is not enough memory for them.
@@ -142,8 +149,11 @@ fn put_cycle(
     words.heads.push(last)
 }
 
-/// Returns the words of a chain of splits that ends on a cycle. This cycle is the loop at the end of the last split, or the
-/// given cycle if there are no splits.
+/// Returns the words of a chain of splits that ends on a cycle. The cycle is the loop at the end of the last split, or `cycle`
+/// if there are no splits. The pumps are the words of the splits and then the word of the cycle; the heads are a word that
+/// leads to each of these, and last the rest that the set of the cycle's state refuses, without the end letter. The splits
+/// must be a chain from the state 0 of the graph, and `cycle` a cycle of the graph on a non-empty word. The leads of the graph
+/// must lead to their pairs, and its rests must not be empty.
 ///
 /// # Errors
 /// [`OutOfMemory`] if there is not enough memory for them.

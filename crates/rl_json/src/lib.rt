@@ -26,7 +26,8 @@ use rl_lists::{Bytes, OutOfMemory};
 use serde_json::Value;
 use std::alloc::Global;
 
-/// Writes a value as one line: its compact text and a line feed. The value must not contain a floating-point number.
+/// Returns a value as one line: its compact text and a line feed. The value must not contain a floating-point number at any
+/// depth.
 ///
 /// # Errors
 /// [`OutOfMemory`] if there is not enough memory.

@@ -22,7 +22,7 @@ use Rattle.rl_pystr.specs.declared.fault.StrError.TheVariants as error
 use Rattle.rl_pystr.specs.declared.literal.Literal.{Literal}
 use Rattle.rl_pystr.specs.declared.placed.Placed.{Placed}
 use Rattle.rl_pystr.specs.Escapes.{is_octal, is_hex, number_of, octal, has_hex, hexadecimal, named_code, byte_escape, text_escape, named_or, escape, unit, size_of}
-use Rattle.rl_pystr.specs.Values.{empty, before, given, value_from}
+use Rattle.rl_pystr.specs.Values.{empty, joined_results, given, value_from}
 use Rattle.rl_pystr.specs.Runs.{is_literal, is_lettered, is_unlettered, has_letter, body_start, body_of, literal_value, token_value, values, has_bytes, value_of_run, universe_by, IsValue}
 use Rattle.rl_pystr.proofs.Bounds.{body_utf8, literal_token}
 
@@ -50,7 +50,7 @@ below_append : (n : ℕ) (xs ys : List ℕ) → Below n xs → Below n ys → Be
 below_append n [] ys hx hy = hy
 below_append n (x ∷ xs) ys hx hy = (hx.0, below_append n xs ys hx.1 hy)
 
-below_before : (n : ℕ) (p q : Result Placed StrError) → ValueBelow n p → ValueBelow n q → ValueBelow n (before p q)
+below_before : (n : ℕ) (p q : Result Placed StrError) → ValueBelow n p → ValueBelow n q → ValueBelow n (joined_results p q)
 below_before n (Ok a) (Ok b) hp hq = below_append n a.codes b.codes hp hq
 below_before n (Ok a) (Err e) hp hq = tt
 below_before n (Err e) q hp hq = tt

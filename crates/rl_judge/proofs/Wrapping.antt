@@ -26,7 +26,7 @@ use Rattle.rl_prio.specs.Items.{Item, test_at, pass, all_guarded, replaced, firs
 use Rattle.rl_prio.specs.Letters.{all_sets}
 use Rattle.rl_prio.proofs.WidthLemmas.{width-both_left, width-both_right, width-longest, longest-width}
 use Rattle.rl_pairs.specs.RightVerdict.{Question, IsSmall}
-use Rattle.rl_rewrite.specs.Verdicts.{PassesLimit}
+use Rattle.rl_rewrite.specs.Verdicts.{IsFirstExceeded}
 use Rattle.rl_judge.specs.declared.options.AnalysisOptions.{AnalysisOptions}
 use Rattle.rl_judge.specs.Analysis.{question_of}
 use Rattle.rl_judge.specs.internal.Conditions.{IsSmallWhole}
@@ -178,7 +178,7 @@ fewer_letters s t n h =
       firsts-finer (alike (all_sets s)) (alike (all_sets t)) (IsLikeness-alike (all_sets s)) h.tells n,
     )
 
-no_limit : (q : Question) (s : Tree) → IsWithin s q.tree → IsSmall q → (l : Limit) → PassesLimit q.universe s l → ⊥
+no_limit : (q : Question) (s : Tree) → IsWithin s q.tree → IsSmall q → (l : Limit) → IsFirstExceeded q.universe s l → ⊥
 no_limit q s h small Size p = small.size (omega (arith, h.nodes, p))
 no_limit q s h small Letters p = small.letters (omega (arith, fewer_letters s q.tree (code_count q.universe) h, p.1))
 no_limit q s h small Moves p = small.moves (omega (arith, h.width, longest-width s, width-longest q.tree, p.2))

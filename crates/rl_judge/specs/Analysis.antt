@@ -1,6 +1,10 @@
--- The analysis of a site, which is a call with a literal pattern. Its outcome is the first of these that holds: the first
--- argument isn't only literals, the literals have no value, the flags aren't known, the value isn't a pattern that can be
--- judged, or the pattern has a verdict. Running out of memory isn't an outcome.
+-- The analysis of a site, which is a call of `re` whose first argument begins with string literals. Its outcome is the first
+-- of these that holds: the first argument isn't only literals, the literals have no value, the flags aren't known, the value
+-- isn't a pattern that can be judged, or the pattern has a verdict. Running out of memory isn't an outcome. A suggestion says
+-- what can be left out of a pattern: it has the simpler pattern, if there is one, and mentions parts (branches and
+-- quantifiers) of the old one. Whether a branch can be left out is tested by a search over set pairs, which are pairs of sets
+-- of states of two automata. A span is a part of the pattern, from one code point up to another. A live pair is a state of the
+-- pattern's automaton with the set of states that were tried before it.
 use Rattle.std.specs.Prelude.{◌≡◌, ◌≢◌, ◌⊎◌, ◌==◌, ℕ, Bool, true, false, List, [], map, take, drop, ◌-◌, Option, Some, None, Ok, Err, if◌then◌else◌}
 use Rattle.rl_ranges.specs.declared.universe.Universe.{Universe}
 use Rattle.rl_ranges.specs.declared.universe.Universe.TheVariants as universe
@@ -38,7 +42,8 @@ use Rattle.rl_syntax.specs.declared.limits.TheConstants.{MOST_SET_PAIRS}
 
 -- ---- the verdict on a pattern, and the suggestion that comes with it
 
--- The question of how the cost of the pattern's texts grows in the given mode, with the given limit of live pairs.
+-- The question how the cost of matching the pattern grows with the length of the text, in the mode and with the limit of live
+-- pairs that the options give.
 abbrev pub question_of : Pattern → AnalysisOptions → Question
 question_of p options = record {
   tree = pattern_tree p options.mode;
@@ -47,15 +52,16 @@ question_of p options = record {
   max_pairs = options.max_pairs;
 }
 
--- Every verdict except `undecided` by size, letters or moves comes with a suggestion. It is right for the limit of 20,000 set
--- pairs.
+-- A verdict that is `undecided` by size, letters or moves comes with no suggestion. Every other verdict comes with one, which
+-- may have no text and mention no parts. It is right for the pattern `p`, which was read from `codes` under `flags`, with
+-- tests that look at up to `MOST_SET_PAIRS` set pairs each.
 abbrev pub IsSuggested : Flags → Pattern → List ℕ → Verdict → Option Suggestion → Type 0
 IsSuggested flags p codes (Undecided Size) suggestion = suggestion ≡ None
 IsSuggested flags p codes (Undecided Letters) suggestion = suggestion ≡ None
 IsSuggested flags p codes (Undecided Moves) suggestion = suggestion ≡ None
 IsSuggested flags p codes v suggestion = (s : Suggestion) × (suggestion ≡ Some s) × IsRightSuggestion flags p codes MOST_SET_PAIRS s
 
--- The text whose pattern is judged too: the suggested text, under report version 2.
+-- The text whose pattern is judged too: the suggested text if there is one and the report has version 2, otherwise none.
 abbrev pub text_to_judge : AnalysisOptions → Option Suggestion → Option (List ℕ)
 text_to_judge options None = None
 text_to_judge options (Some s) = if options.report == 2 then s.text else None
@@ -71,15 +77,16 @@ IsSuggestedVerdict flags options u (Some text) becomes = (v : Verdict) × (becom
 
 -- ---- the parts that a suggestion mentions
 
--- The code points of a span.
+-- The code points of a span: those from the place `span.from` up to the place `span.upto`, which isn't included. Both are
+-- counted from 0.
 abbrev pub codes_of : Span → List ℕ → List ℕ
 codes_of span codes = take (span.upto - span.from) (drop span.from codes)
 
--- The byte place in the source where a part of a pattern begins.
+-- The part of a pattern at a span: the byte place in the source where it begins, without its text.
 abbrev pub bare_part : Literal → Span → Part
 bare_part literal span = record { byte = code_place literal span.from; text = None }
 
--- The byte place where a part of a pattern begins, and its code points as a quoted literal.
+-- The part of a pattern at a span: the byte place in the source where it begins, and its code points as a quoted literal.
 abbrev pub quoted_part : Literal → Span → Part
 quoted_part literal span = record { byte = code_place literal span.from; text = Some (quoted_text literal.universe (codes_of span literal.codes)) }
 
@@ -88,7 +95,7 @@ abbrev pub no_parts : Parts
 no_parts = record { dropped = []; merged = []; passed = [] }
 
 -- The parts that a suggestion mentions: branches that it drops and branches whose test exceeded its limit, both with their
--- texts, and quantifiers that it removes.
+-- texts, and quantifiers that it removes, without texts. No parts if there is no suggestion.
 abbrev pub parts_of : Literal → Option Suggestion → Parts
 parts_of literal None = no_parts
 parts_of literal (Some s) = record {
@@ -97,8 +104,9 @@ parts_of literal (Some s) = record {
   passed = map (quoted_part literal) s.passed;
 }
 
--- The analysis is right for a pattern: the verdict is right, and so are the suggestion and the verdict on the suggested
--- pattern.
+-- The analysis `a` is right for the pattern `p`, which the literal spells under `flags`: its outcome has a verdict that is
+-- right under `options`, a right suggestion if the verdict comes with one, and a right verdict on the suggested pattern if
+-- there is a text to judge; and its parts are those that the suggestion mentions.
 pub record IsJudged (flags : Flags) (options : AnalysisOptions) (literal : Literal) (p : Pattern) (a : Analysis) : Type 0 where
   pub verdict : Verdict
   pub suggestion : Option Suggestion
@@ -110,17 +118,19 @@ pub record IsJudged (flags : Flags) (options : AnalysisOptions) (literal : Liter
 
 -- ---- sites
 
--- The analysis of a site without a verdict.
+-- The analysis with the outcome `o`, which has no verdict, in the universe `u`. It mentions no parts of a pattern. `fault` is
+-- the byte place of the fault, or `None` if it has no place.
 abbrev pub refusal : Universe → Option ℕ → Outcome → Analysis
 refusal u fault o = record { universe = u; fault = fault; outcome = o; parts = no_parts }
 
--- Whether a run of literals is text or bytes, which is decided by its value; text if it has no value.
+-- The value of a run of literals is a text of the universe `u`. If the run has no value, for another reason than that memory
+-- ran out, `u` is `Str`.
 abbrev pub IsUniverseOfRun : List ℕ → List Token → Universe → Type 0
 IsUniverseOfRun source run u =
     ((literal : Literal) × IsValue source run literal × (u ≡ literal.universe))
     ⊎ ((e : StrError) × (value_of_run source run ≡ Err e) × (e ≢ valuing.OutOfMemory) × (u ≡ universe.Str))
 
--- The analysis is right for a site of the source with these tokens.
+-- The analysis is right for a site of the source with these tokens. One of the cases below applies.
 pub data IsAnalysisOf (source : List ℕ) (tokens : List Token) (options : AnalysisOptions) (site : Site) (a : Analysis) : Type 0 where
   -- The first argument isn't only its first run of literals.
   is_not_whole : {u : Universe} → site.whole ≡ false → IsUniverseOfRun source (run_of tokens site) u

@@ -90,11 +90,7 @@ fn literal_universe(
     ensures { IfOk result (IsUniverseOfRun source.now (run_of tokens.now site)) }
 {
     match value(alloc, source, tokens, site.first, site.count) {
-        Ok(literal) => {
-            let universe = literal.universe;
-            drop(literal);
-            Ok(universe)
-        }
+        Ok(literal) => Ok(literal.universe),
         Err(StrError::OutOfMemory) => Err(OutOfMemory),
         Err(_) => Ok(Universe::Str),
     }
@@ -136,7 +132,8 @@ fn without_pattern(
     }
 }
 
-/// Analyzes a site whose value is this pattern: finds the verdict, the suggestion, and the verdict on the suggested pattern.
+/// Returns the analysis of a site whose value is this pattern: the verdict, the suggestion, and the verdict on the suggested
+/// pattern.
 #[tactic(auto, using(crate::proofs::Parsing::parsing))]
 fn with_pattern(
     alloc: Global,
@@ -154,22 +151,9 @@ fn with_pattern(
 {
     let universe = literal.universe;
     let verdict = verdict_on(alloc, pattern, options)?;
-    let Ok(suggestion) = suggestion_beside(alloc, pattern, &literal.codes, flags, options, &verdict)
-    else {
-        drop(verdict);
-        return Err(OutOfMemory);
-    };
-    let Ok(becomes) = suggested_verdict(alloc, suggestion.as_ref(), universe, flags, options) else {
-        drop(suggestion);
-        drop(verdict);
-        return Err(OutOfMemory);
-    };
-    let Ok(parts) = parts_of(alloc, literal, suggestion.as_ref()) else {
-        drop(becomes);
-        drop(suggestion);
-        drop(verdict);
-        return Err(OutOfMemory);
-    };
+    let suggestion = suggestion_beside(alloc, pattern, &literal.codes, flags, options, &verdict)?;
+    let becomes = suggested_verdict(alloc, suggestion.as_ref(), universe, flags, options)?;
+    let parts = parts_of(alloc, literal, suggestion.as_ref())?;
     Ok(Analysis {
         universe,
         fault: None,
@@ -178,7 +162,12 @@ fn with_pattern(
     })
 }
 
-/// Analyzes a site of the source with these tokens. The outcome is the first of five that holds.
+/// Returns the analysis of a site of the source with these tokens. Its outcome is the first of these that holds: the first
+/// argument isn't only literals, the literals have no value, the flags aren't known, the value isn't a pattern that can be
+/// judged, or the pattern has a verdict. The limit of live pairs in `options` must be from 1 to 1,000.
+///
+/// # Errors
+/// [`OutOfMemory`] if memory runs out.
 #[tactic(auto, using(crate::proofs::Parsing::parsing))]
 pub fn analyze(
     alloc: Global,
@@ -204,19 +193,10 @@ pub fn analyze(
     };
     let universe = literal.universe;
     let SiteFlags::Known(flags) = site.flags else {
-        drop(literal);
         return Ok(refusal(alloc, universe, None, Outcome::FlagsUnknown));
     };
-    let pattern = match parse(alloc, &literal.codes, flags, universe) {
-        Ok(pattern) => pattern,
-        Err(error) => {
-            let refused = without_pattern(alloc, &literal, error);
-            drop(literal);
-            return refused;
-        }
-    };
-    let judged = with_pattern(alloc, &literal, &pattern, flags, options);
-    drop(pattern);
-    drop(literal);
-    judged
+    match parse(alloc, &literal.codes, flags, universe) {
+        Ok(pattern) => with_pattern(alloc, &literal, &pattern, flags, options),
+        Err(error) => without_pattern(alloc, &literal, error),
+    }
 }

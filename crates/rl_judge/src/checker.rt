@@ -1,4 +1,6 @@
-//! The checker: a visitor of a walk that keeps the entries of all visits.
+//! The checker: a visitor of a walk that keeps the entries of all visits. A visit is to a source with its bytes, or to a path
+//! without one. An entry is one result of a report: for a call of `re` whose pattern is a literal, for a source that can't be
+//! cut into tokens, or for a path without a source.
 ghost use Rattle.std.specs.Prelude.{◌≡◌, ◌||◌, ◌++◌, [], All, IfOk, OnOk};
 ghost use Rattle.rl_report.specs.Layouts.{IsOfItsUniverse};
 ghost use Rattle.rl_walk.specs.Visits.{is_unreadable};
@@ -14,7 +16,7 @@ use rl_walk::{Visit, Visitor};
 use std::alloc::Global;
 use std::marker::Model;
 
-/// Whether a call of the tree failed before this visit or for its path.
+/// Returns whether the visit is to an unreadable path, or one before it was, as `before` says.
 fn is_unread(before: bool, visit: &Visit) -> bool
     ensures { result ≡ (before || is_unreadable visit.now) }
 {
@@ -35,7 +37,7 @@ fn entries_of(alloc: Global, visit: &Visit, settings: &Settings) -> Result<Entri
     }
 }
 
-/// Appends entries.
+/// Appends the entries `later` to `entries`, in order.
 fn append(entries: &mut Entries, later: Entries) -> Result<(), OutOfMemory>
     ensures { OnOk result (entries.new ≡ entries.old ++ later) }
 {
@@ -45,12 +47,15 @@ fn append(entries: &mut Entries, later: Entries) -> Result<(), OutOfMemory>
     Ok(())
 }
 
-/// Judges the sources that a walk visits, and collects the entries.
+/// The visitor of a walk. It judges each source that the walk visits, and keeps the entries of all visits.
 #[derive(Drop)]
 pub struct Checker {
     alloc: Global,
+    /// The settings of the report.
     settings: Settings,
+    /// The entries of the visits so far, in the order of the visits.
     entries: Entries,
+    /// Whether one of the visited paths was unreadable.
     has_unread: bool,
 }
 
@@ -66,7 +71,8 @@ impl Model for Checker {
 }
 
 impl Checker {
-    /// Returns a checker that has seen no visit.
+    /// Returns a checker with these settings that has no entries yet. The settings must be valid: the limit of live pairs is
+    /// from 1 to 1,000, and the report version is 1 or 2.
     pub fn new(alloc: Global, settings: Settings) -> Checker
         requires { IsValid settings }
         ensures told { HasChecked result [] }
@@ -80,21 +86,21 @@ impl Checker {
         }
     }
 
-    /// Returns the entries of the visits so far.
+    /// Returns the entries of the visits so far, in the order of the visits.
     pub fn entries(&self) -> &Entries
         ensures { result.now ≡ self.now.entries }
     {
         &self.entries
     }
 
-    /// Returns the entries of the visits and consumes the checker.
+    /// Returns the entries of the visits so far, in the order of the visits, and consumes the checker.
     pub fn into_entries(self) -> Entries
         ensures { result ≡ self.entries }
     {
         self.entries
     }
 
-    /// Whether a call of the tree has failed so far.
+    /// Returns whether one of the paths visited so far was unreadable, because a call of the tree failed.
     pub fn has_unread(&self) -> bool
         ensures { result ≡ self.now.has_unread }
     {
@@ -105,19 +111,16 @@ impl Checker {
 impl Visitor for Checker {
     ghost use Rattle.rl_judge.specs.declared.settings.Settings.{Settings};
 
-    ghost was_told = { HasChecked };
+    ghost has_received = { HasChecked };
 
     ghost Config = { Settings };
 
     ghost config = { λ c. c.settings };
 
     fn visit(&mut self, visit: Visit) -> Result<(), OutOfMemory> {
-        let found = entries_of(self.alloc, &visit, &self.settings);
-        let has_unread = is_unread(self.has_unread, &visit);
-        drop(visit);
-        let later = found?;
+        let later = entries_of(self.alloc, &visit, &self.settings)?;
         append(&mut self.entries, later)?;
-        self.has_unread = has_unread;
+        self.has_unread = is_unread(self.has_unread, &visit);
         Ok(())
     }
 }

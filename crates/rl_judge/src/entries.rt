@@ -1,4 +1,6 @@
-//! The entries of a source.
+//! The entries of a source. A site is a call of `re` whose first argument begins with string literals. An entry is one result
+//! of a report: for a call of `re` whose pattern is a literal, for a source that can't be cut into tokens, or for a path
+//! without a source.
 ghost use Rattle.std.specs.Prelude.{◌≡◌, ◌≤◌, ◌∷◌, [], All, length, slice_get, option_map, IfOk};
 ghost use Rattle.std.specs.List.{AllZip, list_any};
 ghost use Rattle.rl_ranges.specs.declared.universe.Universe.TheVariants as universe;
@@ -39,7 +41,7 @@ fn source_fault(fault: LexError) -> Option<u32>
     }
 }
 
-/// Returns the byte place where a token begins.
+/// Returns the byte place where the token with this number begins, or `None` if there is no such token.
 fn start_of(tokens: &TokenList, number: u32) -> Option<u32>
     ensures { result ≡ option_map (λ token. token.from) (slice_get tokens.now number) }
 {
@@ -49,7 +51,11 @@ fn start_of(tokens: &TokenList, number: u32) -> Option<u32>
     }
 }
 
-/// Returns a list with the only entry of a path without calls to judge. `at` is the place in its source, if there is one.
+/// Returns a list with one entry: that of a path without sites, with this outcome. `at` is the place of the fault because of
+/// which its source can't be cut into tokens, if there is one. If the outcome has texts, they must be texts of `str`.
+///
+/// # Errors
+/// [`OutOfMemory`] if memory runs out.
 pub fn path_entries(
     alloc: Global,
     path: &Name,
@@ -60,24 +66,16 @@ pub fn path_entries(
     ensures entry { IfOk result (λ entries. entries ≡ path_entry path.now at outcome ∷ []) }
     ensures universe { IfOk result (All IsOfItsUniverse) }
 {
-    let Ok(path) = path.clone() else {
-        drop(outcome);
-        return Err(OutOfMemory);
-    };
     let mut entries = Entries::new(alloc);
-    let entry = Entry {
-        path,
+    entries.push(Entry {
+        path: path.clone()?,
         at,
         call: None,
         universe: Universe::Str,
         fault: None,
         outcome,
         marks: no_marks(alloc),
-    };
-    let Ok(()) = entries.push(entry) else {
-        drop(entries);
-        return Err(OutOfMemory);
-    };
+    })?;
     Ok(entries)
 }
 
@@ -120,17 +118,10 @@ fn site_entry(
     ensures at { IsAt source.now cursor.new }
 {
     let analysis = analyze(alloc, source, tokens, site, options_of(settings, site.call))?;
-    let Ok(path) = path.clone() else {
-        drop(analysis);
-        return Err(OutOfMemory);
-    };
+    let path = path.clone()?;
     let at = some_place_at(cursor, source, start_of(tokens, site.first));
     let fault = some_place_at(cursor, source, analysis.fault);
-    let Ok(marks) = marks_of(alloc, source, analysis.parts, *cursor) else {
-        drop(analysis.outcome);
-        drop(path);
-        return Err(OutOfMemory);
-    };
+    let marks = marks_of(alloc, source, analysis.parts, *cursor)?;
     Ok(Entry {
         path,
         at,
@@ -165,7 +156,7 @@ fn site_entries(
     Ok(entries)
 }
 
-/// Why a source isn't judged.
+/// The only reason why a source isn't judged.
 #[derive(Clone, Copy, Debug, PartialEq, Eq)]
 pub enum JudgeError {
     /// Memory ran out.
@@ -191,13 +182,15 @@ impl From<JudgeError> for OutOfMemory {
     }
 }
 
-/// Judges one source. If it can't be cut into tokens, its only entry says why; otherwise it has one entry for each of its
-/// sites, in their order.
+/// Returns the entries of one source. If it can't be cut into tokens, its only entry says why; otherwise it has one entry for
+/// each of its sites, in their order.
 ///
 /// The outcome of a site is the first of these that holds: its first argument isn't only literals, the literals have no value,
 /// the flags aren't known, the value isn't a pattern that can be judged, or the pattern has a verdict in the mode of its call.
 /// Every verdict except `undecided` by size, letters or moves comes with a suggestion. Under report version 2 the verdict on
 /// the suggested pattern is added.
+///
+/// The settings must be valid: the limit of live pairs is from 1 to 1,000, and the report version is 1 or 2.
 ///
 /// # Errors
 /// [`JudgeError::OutOfMemory`] if memory runs out.
@@ -221,7 +214,15 @@ pub fn judge(
     }
 }
 
-/// Returns the status of a report on these entries: 1 if one of them is a finding, otherwise 0. It needs no memory.
+/// Returns whether one of the entries is a finding: exponential, or of a degree above `max_degree`. It needs no memory.
+pub fn has_finding(entries: &[Entry], max_degree: u32) -> bool
+    ensures { result ≡ list_any (is_finding max_degree) entries.now }
+{
+    entries.iter().any(|entry| entry.is_finding(max_degree))
+}
+
+/// Returns the status of a report on these entries: 1 if one of them is a finding (exponential, or of a degree above
+/// `max_degree` of the settings), otherwise 0, as for no entries. It needs no memory.
 pub fn status_of(entries: &Entries, settings: &Settings) -> u8
     ensures { result ≡ status_of settings.now entries.now }
 {
@@ -230,11 +231,4 @@ pub fn status_of(entries: &Entries, settings: &Settings) -> u8
     } else {
         0
     }
-}
-
-/// Whether one of the entries is a finding.
-fn has_finding(entries: &[Entry], max_degree: u32) -> bool
-    ensures { result ≡ list_any (is_finding max_degree) entries.now }
-{
-    entries.iter().any(|entry| entry.is_finding(max_degree))
 }

@@ -13,7 +13,8 @@
 //! 6. `some_place_at` and `marks_of` turn byte places into lines and columns.
 //!
 //! [`Checker`] is the visitor that `walk` (`rl_walk`) calls for each path. It judges the sources and keeps their entries, and
-//! adds one entry for each path that has no source to judge. [`status_of`] is 1 if one of the entries is a finding.
+//! adds one entry for each path that has no source to judge. [`has_finding`] says whether one of the entries is a finding;
+//! [`status_of`] is 1 if so, and otherwise 0.
 //!
 //! # What is proved
 //!
@@ -58,5 +59,5 @@ mod suggestion;
 mod verdict;
 
 pub use checker::Checker;
-pub use entries::{JudgeError, judge, status_of};
+pub use entries::{JudgeError, has_finding, judge, status_of};
 pub use settings::{Layout, Settings};

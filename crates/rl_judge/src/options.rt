@@ -1,4 +1,5 @@
-//! How the pattern of a call is judged.
+//! How the pattern of a call is judged. A live pair is a state of the pattern's automaton with the set of states that were
+//! tried before it.
 ghost use Rattle.std.specs.Prelude.{◌≡◌};
 ghost use Rattle.rl_judge.specs.RightEntries.{mode_of, options_of};
 
@@ -30,7 +31,8 @@ fn mode_of(settings: &Settings, call: Call) -> Mode
     }
 }
 
-/// Returns how the pattern of a call is judged under the settings.
+/// Returns the options by which the pattern of a call is judged under the settings. The mode is `compile_as` for a call of
+/// `compile`, the mode of the same name for `match` and `fullmatch`, and `search` for every other call.
 pub fn options_of(settings: &Settings, call: Call) -> AnalysisOptions
     ensures { result ≡ options_of settings.now call }
 {

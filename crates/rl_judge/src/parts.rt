@@ -1,4 +1,6 @@
-//! The parts of a pattern that a suggestion mentions, by their byte places in the source.
+//! The parts of a pattern that a suggestion mentions, by their byte places in the source. A suggestion says what can be left
+//! out of a pattern: it has the simpler pattern, if there is one, and mentions parts (branches and quantifiers) of the old
+//! one. A span is a part of a pattern, from one code point up to another.
 ghost use Rattle.std.specs.Prelude.{◌≡◌, All, length, map, option_map, IfOk, IfSome};
 ghost use Rattle.rl_ranges.specs.Text.{IsText};
 ghost use Rattle.rl_report.specs.Verdicts.{quoted_text};
@@ -11,12 +13,12 @@ use rl_pystr::{Literal, quote};
 use rl_syntax::{Span, Suggestion};
 use std::alloc::Global;
 
-/// A part of a pattern.
+/// A part of a pattern that a suggestion mentions: a branch or a quantifier.
 #[derive(Drop)]
 pub struct Part {
-    /// The byte place where the part begins.
+    /// The byte place in the source where the part begins.
     pub byte: u32,
-    /// The part as a quoted text, if the report shows it.
+    /// The part as a quoted Python literal, or `None` for a quantifier.
     pub text: Option<Bytes>,
 }
 
@@ -34,7 +36,7 @@ pub struct Parts {
     pub passed: PartList,
 }
 
-/// Returns lists without parts.
+/// Returns three empty lists of parts.
 pub fn no_parts(alloc: Global) -> Parts
     ensures { result ≡ no_parts }
 {
@@ -45,8 +47,8 @@ pub fn no_parts(alloc: Global) -> Parts
     }
 }
 
-/// Returns the byte place of a code point of the literals' value. The place after the last code point is the place of the
-/// closing quotes.
+/// Returns the byte place in the source of a code point of the literals' value, counted from 0. For the place after the last
+/// code point, or any later one, it is the place where the closing quotes of the last literal begin.
 pub fn code_place(literal: &Literal, code: u32) -> u32
     ensures { result ≡ code_place literal.now code }
 {
@@ -106,7 +108,12 @@ fn bare_parts(alloc: Global, literal: &Literal, spans: &[Span]) -> Result<PartLi
     Ok(parts)
 }
 
-/// Returns the parts that the suggestion mentions, or no parts if there is no suggestion.
+/// Returns the parts that the suggestion mentions, each with the byte place where it begins, or three empty lists if there is
+/// no suggestion. The branches that it mentions must lie within the code points of the literal, which must be a text of its
+/// universe.
+///
+/// # Errors
+/// [`OutOfMemory`] if memory runs out.
 pub fn parts_of(
     alloc: Global,
     literal: &Literal,

@@ -1,4 +1,5 @@
-//! The lines and columns of byte places, and of the parts of a pattern.
+//! The lines and columns of byte places, and of the parts of a pattern. A cursor is a byte place in a source with its line and
+//! column. A mark is a part of a pattern, with its line and column.
 ghost use Rattle.std.specs.Prelude.{◌≡◌, ◌≢◌, ◌≤◌, [], List, ℕ, length, map, None, option_map, IfOk};
 ghost use Rattle.rl_report.specs.Places.{IsAt, place_of};
 ghost use Rattle.rl_judge.specs.RightEntries.{mark_of, marks_of};
@@ -35,7 +36,8 @@ fn place_at(cursor: &mut Cursor, source: &[u8], byte: u32) -> Place
     cursor.place()
 }
 
-/// Returns the line and column of a byte place, if there is one.
+/// Returns the line and column of a byte place, and moves the cursor there. If there is no byte place, returns `None` and
+/// leaves the cursor where it is. The cursor must be in this source, which must have at most 4,194,304 bytes.
 pub fn some_place_at(cursor: &mut Cursor, source: &[u8], byte: Option<u32>) -> Option<Place>
     requires at { IsAt source.now cursor.old }
     requires short { length source.now ≤ MOST_BYTES }
@@ -48,7 +50,8 @@ pub fn some_place_at(cursor: &mut Cursor, source: &[u8], byte: Option<u32>) -> O
     }
 }
 
-/// Returns the line and column of a byte place of a source, if there is one.
+/// Returns the line and column of the byte place of a fault, or `None` if the fault has no place. If it has one, the source
+/// must have at most 4,194,304 bytes.
 pub fn fault_place(source: &[u8], byte: Option<u32>) -> Option<Place>
     requires { byte ≢ None → length source.now ≤ MOST_BYTES }
     ensures { result ≡ option_map (place_of source.now) byte }
@@ -59,7 +62,7 @@ pub fn fault_place(source: &[u8], byte: Option<u32>) -> Option<Place>
     }
 }
 
-/// Returns lists without marks.
+/// Returns three empty lists of marks.
 pub fn no_marks(alloc: Global) -> Marks
     ensures { result ≡ record { dropped = []; merged = []; passed = [] } }
 {
@@ -93,7 +96,11 @@ fn mark_list(
     Ok(marks)
 }
 
-/// Returns the lines and columns of the parts that a suggestion mentions. Counting starts at the cursor for each of the lists.
+/// Returns the parts that a suggestion mentions, each with its line and column in place of its byte place. Counting starts at
+/// the cursor for each of the lists. The cursor must be in this source, which must have at most 4,194,304 bytes.
+///
+/// # Errors
+/// [`OutOfMemory`] if memory runs out.
 pub fn marks_of(
     alloc: Global,
     source: &[u8],

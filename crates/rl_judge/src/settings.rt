@@ -1,4 +1,5 @@
-//! The settings of a report.
+//! The settings of a report. A live pair is a state of the pattern's automaton with the set of states that were tried before
+//! it.
 use rl_report::Format;
 use rl_syntax::Mode;
 

@@ -1,4 +1,6 @@
-//! The suggestion for a pattern, and the verdict on the suggested pattern.
+//! The suggestion for a pattern, and the verdict on the suggested pattern. A suggestion says what can be left out of a
+//! pattern: it has the simpler pattern, if there is one, and mentions parts of the old one. A live pair is a state of the
+//! pattern's automaton with the set of states that were tried before it.
 ghost use Rattle.std.specs.Prelude.{◌≡◌, ◌≤◌, Ok, IfOk, IfSome, length, option_map};
 ghost use Rattle.rl_ranges.specs.Text.{IsText};
 ghost use Rattle.rl_syntax.specs.Pattern.{universe_of};
@@ -17,7 +19,7 @@ use rl_rewrite::{SuggestError, plain_suggestion, suggest};
 use rl_syntax::{Limit, MOST_SET_PAIRS, Pattern, Suggestion, Universe, Verdict};
 use std::alloc::Global;
 
-/// Whether this verdict comes with a suggestion.
+/// Returns whether this verdict comes with a suggestion.
 fn has_suggestion(verdict: &Verdict) -> bool
     ensures { result ≡ has_suggestion verdict.now }
 {
@@ -27,7 +29,7 @@ fn has_suggestion(verdict: &Verdict) -> bool
     )
 }
 
-/// Returns the suggestion for a pattern that exceeds no limit of the comparison.
+/// Returns the suggestion for a pattern whose tree for `fullmatch` exceeds no limit.
 #[tactic(auto, using(crate::proofs::Suggestions::empty_parts))]
 fn suggestion_for(
     alloc: Global,
@@ -53,8 +55,11 @@ fn suggestion_for(
     }
 }
 
-/// Returns the suggestion that comes with the verdict on a pattern, or `None` if the verdict is `undecided` by size, letters or
-/// moves.
+/// Returns the suggestion that comes with the verdict on a pattern, or `None` if the verdict is `undecided` by size, letters
+/// or moves. The pattern must be the one that `codes` spell under `flags`, and the verdict a right one under `options`.
+///
+/// # Errors
+/// [`OutOfMemory`] if memory runs out.
 pub fn suggestion_beside(
     alloc: Global,
     pattern: &Pattern,
@@ -78,7 +83,7 @@ pub fn suggestion_beside(
     Ok(Some(suggestion))
 }
 
-/// Returns the suggested text if its pattern is to be judged too: under report version 2.
+/// Returns the suggested text if its pattern is judged too, that is, under report version 2.
 fn text_to_judge(options: AnalysisOptions, suggestion: Option<&Suggestion>) -> Option<&Codes>
     ensures { option_map (λ text. text.now) result ≡ text_to_judge options (option_map (λ s. s.now) suggestion.entry) }
 {
@@ -104,17 +109,18 @@ fn verdict_on_text(
     ensures { IfOk result (IsTextVerdict flags options universe text.now) }
 {
     match parse(alloc, text, flags, universe) {
-        Ok(pattern) => {
-            let verdict = verdict_on(alloc, &pattern, options);
-            drop(pattern);
-            verdict
-        }
+        Ok(pattern) => verdict_on(alloc, &pattern, options),
         Err(PatError::OutOfMemory) => Err(OutOfMemory),
         Err(_) => unreachable!(),
     }
 }
 
-/// Returns the verdict on the suggested pattern, if it is to be judged.
+/// Returns the verdict on the suggested pattern, or `None` if no pattern is suggested or the report doesn't have version 2.
+/// The suggested text must be one of the universe and be read as a pattern under `flags`; the limit of live pairs in `options`
+/// must be from 1 to 1,000.
+///
+/// # Errors
+/// [`OutOfMemory`] if memory runs out.
 pub fn suggested_verdict(
     alloc: Global,
     suggestion: Option<&Suggestion>,
@@ -129,10 +135,7 @@ pub fn suggested_verdict(
     ensures { IfOk result (IsSuggestedVerdict flags options universe (text_to_judge options (option_map (λ s. s.now) suggestion.entry))) }
 {
     match text_to_judge(options, suggestion) {
-        Some(text) => {
-            let verdict = verdict_on_text(alloc, text, universe, flags, options)?;
-            Ok(Some(verdict))
-        }
+        Some(text) => Ok(Some(verdict_on_text(alloc, text, universe, flags, options)?)),
         None => Ok(None),
     }
 }

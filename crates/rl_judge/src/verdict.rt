@@ -1,4 +1,5 @@
-//! The verdict on a pattern.
+//! The verdict on a pattern. It says how the cost of matching grows with the length of the text. A live pair is a state of the
+//! pattern's automaton with the set of states that were tried before it.
 ghost use Rattle.std.specs.Prelude.{◌≤◌, IfOk};
 ghost use Rattle.rl_syntax.specs.Pattern.{universe_of};
 ghost use Rattle.rl_pairs.specs.RightVerdict.{RightVerdict};
@@ -11,7 +12,11 @@ use rl_lists::OutOfMemory;
 use rl_syntax::{Limit, LowerError, Pattern, Verdict, lower};
 use std::alloc::Global;
 
-/// Returns the verdict on a pattern.
+/// Returns the verdict on a pattern in the mode of the options, with their limit of live pairs, which must be from 1 to 1,000.
+/// It is `undecided` by size if the pattern is too large to be lowered.
+///
+/// # Errors
+/// [`OutOfMemory`] if memory runs out.
 pub fn verdict_on(
     alloc: Global,
     pattern: &Pattern,
@@ -23,11 +28,7 @@ pub fn verdict_on(
     ensures texts { IfOk result (IsVerdictOf (universe_of pattern.now)) }
 {
     match lower(alloc, pattern, options.mode) {
-        Ok(lowered) => {
-            let verdict = classify(alloc, &lowered, pattern.universe(), options.max_pairs);
-            drop(lowered);
-            verdict
-        }
+        Ok(lowered) => classify(alloc, &lowered, pattern.universe(), options.max_pairs),
         Err(LowerError::TooLarge) => Ok(Verdict::Undecided(Limit::Size)),
         Err(LowerError::OutOfMemory) => Err(OutOfMemory),
     }

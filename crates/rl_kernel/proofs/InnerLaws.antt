@@ -122,22 +122,6 @@ inner-row g p n i c end s h seats long is row = record {
         let f : q ≡ i = b.0 in
         rw (e, f) (here m (rw (e, f) at kept))
 
-pub inner-state : (g : Graph) (p : PartTable) (s : Seats) (i c : ℕ) (h : Graph) → g.letters ≤ c → IsInnerUpTo g p s i c h → IsInnerUpTo g p s (i + 1) 0 h
-inner-state g p s i c h long is = record {
-  same_states = is.same_states;
-  same_letters = is.same_letters;
-  kept = is.kept;
-  all = λ q l m before kept. by q l m before kept;
-}
-  where
-    lower : (q l m : ℕ) → q < i + 1 → IsKept g p s q l m → (q < i) ⊎ (i ≤ q) → Has m (edges_of h q l)
-    lower q l m b kept (inl d) = is.all q l m (inl d) kept
-    lower q l m b kept (inr d) = is.all q l m (inr (omega arith, omega (arith, move-letter g (state_at s q) l (state_at s m) kept.move))) kept
-
-    by : (q l m : ℕ) → Before (i + 1) 0 q l → IsKept g p s q l m → Has m (edges_of h q l)
-    by q l m (inl b) kept = lower q l m b kept (cases_lt q i)
-    by q l m (inr b) kept = absurd (omega (arith, b.1))
-
 pub inner-bare : (g : Graph) (p : PartTable) (s : Seats) (h : Graph) (n : ℕ) → n ≡ length s.states → IsBare h n g.letters → IsInnerUpTo g p s 0 0 h
 inner-bare g p s h n e b = record {
   same_states = b.all_states ∙ e;
@@ -186,7 +170,3 @@ filling-added i c end t h k a f = record {
 
 pub filling-passed : (i c end : ℕ) (h : Graph) → IsFilling i c end h → IsFilling i c (end + 1) h
 filling-passed i c end h f = record { few = omega (arith, f.few); bare = f.bare }
-
-pub bare-state : (i c : ℕ) (h : Graph) → IsBareFrom i c h → IsBareFrom (i + 1) 0 h
-bare-state i c h b q l (inl a) = b q l (inl (omega (arith, a)))
-bare-state i c h b q l (inr a) = b q l (inl (omega (arith, a.0)))

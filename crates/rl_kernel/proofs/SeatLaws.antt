@@ -4,24 +4,8 @@ use Rattle.std.proofs.lemmas.Bool.{cases_eq, cases_lt, both_ways}
 use Rattle.std.proofs.lemmas.List.{length_push, get_or_push, get_or_append_left}
 use Rattle.rl_graph.specs.Parts.{PartTable, number_of}
 use Rattle.rl_kernel.specs.Members.{is_member}
-use Rattle.rl_kernel.specs.Seats.{Seats, state_at, with_seat, IsBareSeats, AreSeats, HoldsUpTo}
+use Rattle.rl_kernel.specs.Seats.{Seats, state_at, with_seat, AreSeats, HoldsUpTo}
 use Rattle.rl_kernel.proofs.MemberLaws.{member-there, there-member}
-
-pub seats-bare : (p : PartTable) (n end : ℕ) (s : Seats) → IsBareSeats n s → AreSeats p n end s
-seats-bare p n end s b = record {
-  size = b.size;
-  short = omega (arith, ap length b.states);
-  same_length = ap length b.levels ∙ sym (ap length b.states);
-  below = λ i h. absurd (none i h);
-  place = λ i h. absurd (none i h);
-  level = λ i h. absurd (none i h);
-}
-  where
-    none : (i : ℕ) → i < length s.states → ⊥
-    none i h = omega (arith, ap length b.states)
-
-pub holds-bare : (test : ℕ → Bool) (p : PartTable) (n : ℕ) (s : Seats) → IsBareSeats n s → HoldsUpTo test p n 0 s
-holds-bare test p n s b = record { seats = seats-bare p n 0 s b; held = λ q h c. absurd (omega arith) }
 
 seats-later : (p : PartTable) (n x : ℕ) (s : Seats) → AreSeats p n x s → AreSeats p n (x + 1) s
 seats-later p n x s o = record {

@@ -1,5 +1,5 @@
-//! The moves between the states of a kernel that stay within a component. If a kernel has all states of a component, every
-//! path from one of them back to itself consists of such moves.
+//! The inner moves of a kernel: the moves between its states that stay within a component. If a kernel has all states
+//! of a component, every path from one of them back to itself consists of inner moves.
 
 ghost use Rattle.std.specs.Prelude.{◌≡◌, ℕ, ◌<◌, ◌+◌, ◌^◌, false, length, IfOk, OnOk, MatchOption};
 ghost use Rattle.rl_graph.specs.Parts.{number_of};
@@ -13,7 +13,8 @@ use rl_graph::{Components, Multigraph};
 use rl_lists::OutOfMemory;
 use std::alloc::Global;
 
-/// Returns the place of a state if the state is in the kernel and in the component with the number `own`.
+/// Returns the place of a state in the kernel, or `None` if the state isn't in the kernel or its component doesn't have
+/// the number `own`.
 fn place_within(components: &Components, kernel: &Kernel, own: u32, state: u32) -> Option<u32>
     requires size { state < length components.now.numbers }
     requires state_in { state < length kernel.now.places.items }
@@ -25,7 +26,7 @@ fn place_within(components: &Components, kernel: &Kernel, own: u32, state: u32) 
     kernel.place_of(state)
 }
 
-/// Adds the inner moves on `letter` of the state at `place`.
+/// Adds to `inner` the inner moves on `letter` of the state at `place` in the kernel.
 fn add_inner_on(
     inner: &mut Multigraph,
     g: &Multigraph,
@@ -54,7 +55,7 @@ fn add_inner_on(
     Ok(())
 }
 
-/// Adds the inner moves of the state at `place`.
+/// Adds to `inner` the inner moves of the state at `place` in the kernel on all letters.
 fn add_inner_from(
     inner: &mut Multigraph,
     g: &Multigraph,
@@ -76,8 +77,11 @@ fn add_inner_from(
     Ok(())
 }
 
-/// Makes the graph of the inner moves, that is, of the moves within a strongly connected component. Its states are the places
-/// of the kernel, and its letters are the letters of the graph.
+/// Returns the graph of the inner moves of a kernel, that is, of the moves of `g` between its states that stay within a
+/// strongly connected component. The states of the new graph are the places in the kernel, and its letters are the
+/// letters of `g`. `components` must be the components of `g`. The kernel must have been created for the states of `g`,
+/// and must have each state at most once, with the number of its component. Of parallel moves, which have the same
+/// state, letter and target, some may be left out.
 ///
 /// # Errors
 /// [`OutOfMemory`] if there is not enough memory for the graph.
@@ -91,6 +95,7 @@ pub fn inner_graph(
     requires seats { AreSeats components.now g.now.states g.now.states (seats_of kernel.now) }
     ensures { IfOk result (λ h. IsInner g.now components.now (seats_of kernel.now) h) }
 {
+    // Reading the number of states tells the prover that the graph is well formed.
     let _states = g.states();
     let count = kernel.states.len() as u32;
     let mut inner = Multigraph::new(alloc, count, g.letters())?;

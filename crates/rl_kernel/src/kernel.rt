@@ -1,4 +1,5 @@
-//! Lists of states of a graph, with fast look-up of a state's place.
+//! Kernels: lists of states of a graph in which the place of a state, which is its index in the list, is looked up in
+//! constant time. A component is a strongly connected component of the graph.
 
 ghost use Rattle.std.specs.Prelude.{◌≡◌, ◌<◌, ◌^◌, false, length, MatchOption, IfOk, OnOk};
 ghost use Rattle.rl_kernel.specs.Members.{is_member, IsPlace};
@@ -7,20 +8,20 @@ ghost use Rattle.rl_kernel.specs.Seats.{seats_of, with_seat, IsBareSeats};
 use rl_lists::OutOfMemory;
 use std::alloc::Global;
 
-/// A list of states of a graph, with the number of each state's component and, for each state of the graph, its place in the
-/// list. The place of a state that isn't in the list has no meaning.
+/// A list of states of a graph, with the number of each state's component. The place of a state is its index in the
+/// list, from 0.
 #[derive(Drop)]
 pub struct Kernel {
-    /// The states of the list.
+    /// The states of the list, in the order in which they were appended.
     pub states: Vec<u32>,
-    /// The number of the component of each state of the list.
+    /// The number of the component of each state of the list, in the same order.
     pub levels: Vec<u32>,
-    /// For each state of the graph, its place in the list.
+    /// For each state of the graph, its place in the list. The entry of a state that isn't in the list has no meaning.
     pub places: Vec<u32>,
 }
 
 impl Kernel {
-    /// Creates an empty list, for a graph with `count` states.
+    /// Returns an empty list, for a graph with `count` states, which have the numbers below `count`.
     ///
     /// # Errors
     /// [`OutOfMemory`] if there is not enough memory for the places.
@@ -35,7 +36,9 @@ impl Kernel {
         })
     }
 
-    /// Appends a state with the number of its component.
+    /// Appends `state`, whose component has the number `level`, and makes its index in the list its place. `state` must
+    /// be a state of the graph for which the list was created, and the list must have fewer than 2^32 states. A state
+    /// that is in the list already is appended again and gets the new place.
     ///
     /// # Errors
     /// [`OutOfMemory`] if there is not enough memory for the state; the list must not be used then.
@@ -51,7 +54,9 @@ impl Kernel {
         Ok(())
     }
 
-    /// Returns the place of a state in the list, or `None` if the state isn't in the list.
+    /// Returns the place of `state` in the list, that is, its index from 0, or `None` if the state isn't in the list.
+    /// `state` must be a state of the graph for which the list was created. If it was appended more than once, its
+    /// place is the last index.
     pub fn place_of(&self, state: u32) -> Option<u32>
         requires state_in { state < length self.now.places.items }
         ensures { MatchOption result (is_member self.now.states.items self.now.places.items state ≡ false) (IsPlace self.now.states.items self.now.places.items state) }

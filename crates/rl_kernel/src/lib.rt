@@ -1,15 +1,16 @@
-//! The moves of a graph that stay within a strongly connected component. The searches for twins and for splits start from
-//! them.
+//! The moves of a graph that stay within a strongly connected component. The searches for twins and for splits start
+//! from them.
 //!
-//! A [`Kernel`] is a list of states of a multigraph, each with the number of its component and its place in the list. You
-//! fill it with [`Kernel::put`]. [`inner_graph`] then makes the graph of the moves that lead from a state of the list to a
-//! state of the list in the same component. The states of the new graph are the places in the list. A cycle never leaves its
-//! component, so no other move can be part of one, and the products that later crates build from this graph are smaller.
+//! A [`Kernel`] is a list of states of a multigraph, each with the number of its component and its place in the list.
+//! You fill it with [`Kernel::put`]. [`inner_graph`] then makes the graph of the inner moves: the moves that lead from
+//! a state of the list to a state of the list in the same component. The states of the new graph are the places in the
+//! list, and its letters are the letters of the old one. A move that leaves its component isn't part of any cycle, so
+//! the products that later crates build from this graph have all the cycles they need and are smaller.
 //!
 //! # What is proved
 //!
-//! The new graph has a move from one place to another on a letter if and only if the old graph has such a move between the
-//! states at these places and both states are in the same component.
+//! The new graph has a move from one place to another on a letter if and only if the old graph has such a move between
+//! the states at these places and both states are in the same component.
 //!
 //! # Example
 //!

@@ -2,21 +2,13 @@
 use Rattle.std.proofs.Common.{◌≡◌, ℕ, zero, suc, ◌<◌, ◌⊎◌, max, List, get_or, refl, sym, ap, ◌∙◌, inl, inr, arith, bit_or}
 use Rattle.std.specs.Int.{bit_at}
 use Rattle.std.proofs.lemmas.Bool.{cases_lt, cases_eq}
-use Rattle.std.proofs.lemmas.Nat.Bits.{bit_at-lt, bit_at-zero, bit_at_or}
-use Rattle.rl_lanes.specs.internal.Words.{IsUnionOf}
+use Rattle.std.proofs.lemmas.Nat.Bits.{bit_at-lt, bit_at_or}
 
 -- `union` is the union of the words whose indices are set in `chosen` and no longer in `left`.
 pub record IsUnionBut (words : List ℕ) (chosen left union : ℕ) : Type 0 where
   pub inside : (i : ℕ) → bit_at left i ≡ 1 → bit_at chosen i ≡ 1
   pub held : (k : ℕ) → bit_at union k ≡ 1 → (i : ℕ) × (i < 64) × (bit_at chosen i ≡ 1) × (bit_at (get_or words i 0) k ≡ 1)
   pub each : (i k : ℕ) → i < 64 → bit_at chosen i ≡ 1 → bit_at (get_or words i 0) k ≡ 1 → (bit_at left i ≡ 1) ⊎ (bit_at union k ≡ 1)
-
-pub IsUnionBut-all : (words : List ℕ) (chosen : ℕ) → IsUnionBut words chosen chosen 0
-IsUnionBut-all words chosen = record {
-  inside = λ i e. e;
-  held = λ k e. absurd (omega (arith, bit_at-zero k, e));
-  each = λ i k lt on set. inl on;
-}
 
 either_bit : (p q : ℕ) → p < 2 → max p q ≡ 1 → (p ≡ 1) ⊎ (q ≡ 1)
 either_bit zero q small e = inr (omega arith)
@@ -40,14 +32,5 @@ IsUnionBut-more words chosen left union low rest w joined small set below inside
         | inr upper ↦ inl (kept low i (omega arith) set still)
       ]
     ]
-  ];
-}
-
-pub IsUnionBut-none : (words : List ℕ) (chosen left union : ℕ) → IsUnionBut words chosen left union → left ≡ 0 → IsUnionOf words chosen union
-IsUnionBut-none words chosen left union joined none = record {
-  held = joined.held;
-  each = λ i k lt on held. elim (joined.each i k lt on held) [
-    | inl still ↦ absurd (omega (arith, ap (λ n. bit_at n i) none ∙ bit_at-zero i, still))
-    | inr was ↦ was
   ];
 }

@@ -1,8 +1,8 @@
-//! One word of 64 bits, bit by bit.
+//! One word of 64 bits, bit by bit. Bits are numbered from 0, the lowest, to 63; a parameter `bit` must be at most 63.
 ghost use Rattle.std.specs.Prelude.{◌≡◌, ◌≢◌, ◌↔◌, ℕ, ◌<◌, ◌≤◌, if◌then◌else◌, IsTrue};
 ghost use Rattle.std.specs.Int.{bit_at};
 
-/// Returns the word with one bit set or cleared.
+/// Returns `word` with the bit `bit` set if `to` is true, and cleared otherwise.
 #[inline(always)]
 pub(crate) fn with_bit(word: u64, bit: usize, to: bool) -> u64
     requires { bit < 64 }
@@ -13,7 +13,7 @@ pub(crate) fn with_bit(word: u64, bit: usize, to: bool) -> u64
     if to { word | mask } else { word & !mask }
 }
 
-/// Whether a bit is set.
+/// Returns whether the bit `bit` of `word` is set.
 #[inline(always)]
 pub(crate) fn has_bit(word: u64, bit: usize) -> bool
     requires { bit < 64 }
@@ -22,7 +22,7 @@ pub(crate) fn has_bit(word: u64, bit: usize) -> bool
     (word >> bit) & 1 != 0
 }
 
-/// Returns the word with all bits below `bit` cleared.
+/// Returns `word` with all bits below the bit `bit` cleared.
 #[inline(always)]
 pub(crate) fn from_bit(word: u64, bit: usize) -> u64
     requires { bit < 64 }
@@ -32,7 +32,7 @@ pub(crate) fn from_bit(word: u64, bit: usize) -> u64
     word & (u64::MAX << bit)
 }
 
-/// Returns the index of the lowest set bit.
+/// Returns the index of the lowest set bit of a word that isn't 0.
 #[inline(always)]
 pub(crate) fn lowest(word: u64) -> usize
     requires { word ≢ 0 }
@@ -43,7 +43,7 @@ pub(crate) fn lowest(word: u64) -> usize
     word.trailing_zeros() as usize
 }
 
-/// Returns the word with its lowest set bit cleared.
+/// Returns a word that isn't 0 with its lowest set bit cleared.
 #[inline(always)]
 pub(crate) fn without_lowest(word: u64) -> u64
     requires { word ≢ 0 }

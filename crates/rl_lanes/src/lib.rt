@@ -3,7 +3,7 @@
 //! A [`BitRow`] has a truth value for each place, so it represents the set of the places that are true. A [`BitTable`] is a
 //! list of rows of equal length. [`BitTable::image`] is the union of the rows that a set selects. If a table holds the
 //! moves of an automaton on one letter, this is one step of the powerset construction. The values are packed into words of
-//! 64 bits, and the kernels process eight words at a time with `std::simd`. Rows can be compared and hashed, so they can be
+//! 64 bits, and the loops process eight words at a time with `std::simd`. Rows can be compared and hashed, so they can be
 //! keys of an `IndexMap`.
 //!
 //! # What is proved

@@ -1,4 +1,4 @@
-//! A row of truth values.
+//! Rows of truth values, stored as bits. Places are numbered from 0.
 ghost use Rattle.std.specs.Prelude.{◌≡◌, ◌==◌, ◌↔◌, ℕ, ◌+◌, ◌*◌, ◌/◌, ◌^◌, ◌<◌, ◌≤◌, Bool, false, length, replicate, count_by, slice_index_or, slice_set, IsTrue, IfOk, IfSome, IfNone};
 ghost use Rattle.std.specs.Bool.{OnFalse};
 ghost use Rattle.std.specs.Int.{bit_at};
@@ -17,12 +17,12 @@ use std::marker::Model;
 /// The number of truth values in a word.
 pub(crate) const WORD: usize = 64;
 
-/// The number of words that a row stores in itself. A row with more words allocates memory for them.
+/// The number of words that a row stores in itself. A row with more words allocates memory for all of them.
 const INLINE: usize = 2;
 
-/// A row of truth values. It represents the set of the places that are true.
+/// A row of truth values. It represents the set of the places whose values are true.
 ///
-/// Contracts see it as the list of its values. Its bits after the last value are 0.
+/// Contracts see it as the list of its values. The bits after the last value are 0.
 #[derive(Debug, Drop)]
 pub struct BitRow {
     words: SmallVec<u64, INLINE>,
@@ -41,10 +41,10 @@ impl Model for BitRow {
 }
 
 impl BitRow {
-    /// Creates a row of `len` places that are all false.
+    /// Returns a row of `len` places, all of which are false.
     ///
     /// # Errors
-    /// [`OutOfMemory`] if there is no memory for the row.
+    /// [`OutOfMemory`] if there is not enough memory for the row.
     pub fn zeros(alloc: Global, len: usize) -> Result<BitRow, OutOfMemory>
         ensures { IfOk result (λ row. row ≡ replicate len false) }
     {
@@ -55,7 +55,7 @@ impl BitRow {
     /// Returns a copy of the row.
     ///
     /// # Errors
-    /// [`OutOfMemory`] if there is no memory for the row.
+    /// [`OutOfMemory`] if there is not enough memory for the copy.
     pub fn copy(&self) -> Result<BitRow, OutOfMemory>
         ensures { IfOk result (λ row. row ≡ self.now) }
     {
@@ -73,14 +73,14 @@ impl BitRow {
         self.len
     }
 
-    /// Whether no place is true.
+    /// Returns whether no place is true. A row without places is empty too.
     pub fn is_empty(&self) -> bool
         ensures { IsTrue result ↔ NoneFrom self.now 0 }
     {
         self.next_from(0).is_none()
     }
 
-    /// Returns the value at a place.
+    /// Returns the value at the place `i`, which must be less than the number of places.
     pub fn get(&self, i: usize) -> bool
         requires { i < length self.now }
         ensures { result ≡ slice_index_or self.now i false }
@@ -88,7 +88,7 @@ impl BitRow {
         has_bit(self.words.as_slice()[i / WORD], i % WORD)
     }
 
-    /// Sets the value at a place.
+    /// Sets the value at the place `i`, which must be less than the number of places.
     pub fn set(&mut self, i: usize, to: bool)
         requires { i < length self.old }
         ensures { self.new ≡ slice_set self.old i to }
@@ -98,14 +98,14 @@ impl BitRow {
         words[word] = with_bit(words[word], i % WORD, to);
     }
 
-    /// Sets all places to false.
+    /// Sets the values at all places to false.
     pub fn clear(&mut self)
         ensures { self.new ≡ replicate (length self.old) false }
     {
         self.words.as_mut_slice().fill(0);
     }
 
-    /// Replaces the row by its union with another.
+    /// Sets each place that is true in `other` to true. Both rows must have the same length.
     pub fn or_into(&mut self, other: &BitRow)
         requires { length self.old ≡ length other.now }
         ensures union { self.new ≡ list_or self.old other.now }
@@ -114,7 +114,7 @@ impl BitRow {
         or_words(self.words.as_mut_slice(), other.words());
     }
 
-    /// Replaces the row by its union with the row that the words hold.
+    /// Sets each place that is true in the words `added` to true. They must store a row of the same length.
     pub(crate) fn add_words(&mut self, added: &[u64])
         requires { IsPacked (length self.old) added.now }
         ensures { self.new ≡ list_or self.old (truths (length self.old) added.now) }
@@ -122,7 +122,7 @@ impl BitRow {
         or_words(self.words.as_mut_slice(), added);
     }
 
-    /// Removes the other row's places from the row.
+    /// Sets each place that is true in `other` to false. Both rows must have the same length.
     pub fn subtract(&mut self, other: &BitRow)
         requires { length self.old ≡ length other.now }
         ensures difference { self.new ≡ list_and_not self.old other.now }
@@ -131,7 +131,7 @@ impl BitRow {
         subtract_words(self.words.as_mut_slice(), other.words());
     }
 
-    /// Whether some place is true in both rows.
+    /// Returns whether some place is true in both rows, which must have the same length.
     pub fn meets(&self, other: &BitRow) -> bool
         requires { length self.now ≡ length other.now }
         ensures meets { IsTrue result ↔ Meets self.now other.now }
@@ -140,7 +140,7 @@ impl BitRow {
         any_both(self.words(), other.words())
     }
 
-    /// Whether every place that is true in this row is true in the other.
+    /// Returns whether every place that is true in this row is true in `of`. Both rows must have the same length.
     pub fn is_subset(&self, of: &BitRow) -> bool
         requires { length self.now ≡ length of.now }
         ensures subset { IsTrue result ↔ IsSubset self.now of.now }
@@ -158,10 +158,10 @@ impl BitRow {
         count_words(self.words())
     }
 
-    /// Returns the first place from `i` on that is true. Skips words of zeros.
+    /// Returns the first place from `i` on that is true, or `None` if there is none. Words of zeros are skipped.
     ///
-    /// To visit all places that are true in ascending order, begin with `next_from(0)` and continue with `next_from(i + 1)`
-    /// after each place `i`.
+    /// To visit all places that are true in ascending order, begin with `next_from(0)` and continue with
+    /// `next_from(i + 1)` after each place `i`.
     pub fn next_from(&self, i: usize) -> Option<usize>
         ensures found { IfSome result (IsLeastFrom self.now i) }
         ensures none { IfNone result (NoneFrom self.now i) }
@@ -174,7 +174,7 @@ impl BitRow {
         }
     }
 
-    /// Returns the word that holds the values of a row of at most 64 places.
+    /// Returns the word that stores a row of at most 64 places: its bit `i` is set if the place `i` is true.
     #[inline(always)]
     pub(crate) fn word(&self) -> u64
         requires { length self.now ≤ 64 }
@@ -184,7 +184,8 @@ impl BitRow {
         if words.is_empty() { 0 } else { words[0] }
     }
 
-    /// Replaces the values of a row of 1 to 64 places by those in the word.
+    /// Replaces the values of a row of 1 to 64 places: the place `i` becomes the bit `i` of `word`. The
+    /// bits of `word` after the last place must be 0.
     #[inline(always)]
     pub(crate) fn put_word(&mut self, word: u64)
         requires some { 0 < length self.old }
@@ -196,7 +197,7 @@ impl BitRow {
         self.words.as_mut_slice()[0] = word;
     }
 
-    /// Returns the words that hold the values.
+    /// Returns the words that store the row.
     fn words(&self) -> &[u64]
         ensures { result.now ≡ words_of self.now }
     {
@@ -242,7 +243,8 @@ impl Hash for BitRow {
     }
 }
 
-/// Returns the first place from `i` on that is true in the words.
+/// Returns the first place from `i` on that is true in the words, or `None` if there is none. There must be a word with
+/// the index `i / 64`.
 fn next_bit(words: &[u64], i: usize) -> Option<usize>
     requires within { i / 64 < length words.now }
     requires small { 64 * length words.now ≤ 2 ^ 64 }

@@ -1,4 +1,4 @@
-//! A table of rows of truth values.
+//! Tables of truth values, stored as bits. Rows and places are numbered from 0.
 ghost use Rattle.std.specs.Prelude.{◌≡◌, ℕ, ◌<◌, ◌≤◌, [], All, Bool, false, length, replicate, slice_index, slice_index_or, slice_set, IfOk, IsTrue};
 ghost use Rattle.rl_lanes.specs.Packed.{truths, IsPacked};
 ghost use Rattle.rl_lanes.specs.Rows.{IsSubset};
@@ -16,8 +16,8 @@ use std::marker::Model;
 ///
 /// Contracts see it as the list of its rows. Each row begins with a new word, and its bits after the last value are 0.
 ///
-/// A run of a row consists of rows directly after it that are all subsets of it. The table stores the end of a run for
-/// every row, or for none.
+/// A run of a row consists of rows directly after it that are all subsets of it, and its end is the index of the first
+/// row after it. The table stores the end of a run for every row, or for none.
 #[derive(Debug, Drop)]
 pub struct BitTable {
     words: Vec<u64>,
@@ -39,10 +39,10 @@ impl Model for BitTable {
 }
 
 impl BitTable {
-    /// Creates a table of `rows` rows, each with `len` places that are all false.
+    /// Returns a table of `rows` rows, each with `len` places, all of which are false.
     ///
     /// # Errors
-    /// [`OutOfMemory`] if there is no memory for the table.
+    /// [`OutOfMemory`] if there is not enough memory for the table.
     pub fn zeros(alloc: Global, rows: usize, len: usize) -> Result<BitTable, OutOfMemory>
         ensures { IfOk result (λ table. table ≡ replicate rows (replicate len false)) }
     {
@@ -58,7 +58,8 @@ impl BitTable {
         })
     }
 
-    /// Sets the value at a place of a row.
+    /// Sets the value at the place `i` of the row with the index `row`, both of which must be in range. The runs that
+    /// were found are forgotten.
     pub fn set(&mut self, row: usize, i: usize, to: bool)
         requires row_in { row < length self.old }
         requires place_in { i < length (slice_index_or self.old row []) }
@@ -69,12 +70,12 @@ impl BitTable {
         self.words[word] = with_bit(self.words[word], i % WORD, to);
     }
 
-    /// Finds the runs of the rows, so that images can skip rows that add nothing. This pays off if a table is filled first
-    /// and many images are taken afterwards: it costs about as much as two images of all rows. A table of at most 64 rows
-    /// needs no runs for fast images, and nothing is done.
+    /// Finds the runs of the rows, so that images can skip rows that add nothing. This pays off if a table is filled
+    /// first and many images are taken afterwards: it costs about as much as two images of all rows. For a table of at
+    /// most 64 rows, nothing is done.
     ///
     /// # Errors
-    /// [`OutOfMemory`] if there is no memory for the ends of the runs.
+    /// [`OutOfMemory`] if there is not enough memory for the ends of the runs.
     pub fn find_runs(&mut self) -> Result<(), OutOfMemory>
         ensures { self.new ≡ self.old }
     {
@@ -84,7 +85,8 @@ impl BitTable {
         Ok(())
     }
 
-    /// Sets `into` to the union of the rows whose numbers are in `chosen`.
+    /// Sets `into` to the union of the rows whose indices are true in `chosen`. `chosen` must have a place for each
+    /// row, and `into` must be as long as the rows. If no row is chosen, all places of `into` become false.
     pub fn image(&self, chosen: &BitRow, into: &mut BitRow)
         requires rows { length chosen.now ≡ length self.now }
         requires places { All (λ row. length row ≡ length into.old) self.now }
@@ -98,7 +100,8 @@ impl BitTable {
         }
     }
 
-    /// Sets `into` to the union of the chosen rows, row by row.
+    /// Sets `into` to the union of the rows whose indices are true in `chosen`, row by row. Rows in the run of a chosen
+    /// row are skipped.
     fn join_chosen(&self, chosen: &BitRow, into: &mut BitRow)
         requires rows { length chosen.now ≡ length self.now }
         requires places { All (λ row. length row ≡ length into.old) self.now }
@@ -113,7 +116,7 @@ impl BitTable {
         }
     }
 
-    /// Returns the end of the known run of a row. If none is known, the run is empty.
+    /// Returns the stored end of the run of a row, or `row + 1`, the end of the empty run, if none is stored.
     fn run_end(&self, row: usize) -> usize
         requires { row < length self.now }
         ensures { IsRun self.now row result }
@@ -127,7 +130,7 @@ impl BitTable {
         }
     }
 
-    /// Returns the end of a run for each row.
+    /// Returns the end of a run for each row, as [`Self::run_from`] finds it.
     fn runs(&self) -> Result<Vec<usize>, OutOfMemory>
         ensures { IfOk result (λ ends. AreRuns self.now ends.items) }
     {
@@ -140,7 +143,8 @@ impl BitTable {
         Ok(ends)
     }
 
-    /// Returns the end of the longest run of a row that the ends for the rows after it allow to find.
+    /// Returns the end of a run of the row `row`. `ends` has the ends of runs for all rows after it: the search goes
+    /// from `row + 1` to the end of its run, and so on, as long as the row there is a subset of `row`.
     fn run_from(&self, row: usize, ends: &[usize]) -> usize
         requires row_in { row < length self.now }
         requires long { length ends.now ≡ length self.now }
@@ -154,7 +158,7 @@ impl BitTable {
         end
     }
 
-    /// Whether one row is a subset of another.
+    /// Returns whether the row with the index `row` is a subset of the row with the index `of`.
     fn is_within(&self, row: usize, of: usize) -> bool
         requires row_in { row < length self.now }
         requires of_in { of < length self.now }
@@ -166,7 +170,7 @@ impl BitTable {
         !any_outside(words, of_words)
     }
 
-    /// Returns the words of a row.
+    /// Returns the words that store the row with the index `row`.
     fn row_words(&self, row: usize) -> &[u64]
         requires { row < length self.now }
         ensures packed { IsPacked (length (slice_index_or self.now row [])) result.now }

@@ -1,4 +1,5 @@
-//! Lists of words of 64 bits. Eight words at a time are processed in lanes, and the rest one by one.
+//! Lists of words of 64 bits. Eight words at a time are processed at once, in the lanes of a vector, and the remaining
+//! ones one by one.
 ghost use Rattle.std.specs.Prelude.{◌≡◌, ◌≢◌, ℕ, ◌+◌, ◌*◌, ◌^◌, ◌<◌, ◌≤◌, length, map, slice_index, bit_and, bit_or, count_ones, MatchBool};
 ghost use Rattle.std.specs.Int.{bit_at};
 ghost use Rattle.std.specs.Simd.Lanes.{sum_l, chunk};
@@ -7,10 +8,10 @@ ghost use Rattle.rl_lanes.specs.internal.Words.{JoinsAt, JoinsEach, SomePair, No
 use crate::bits::{lowest, without_lowest};
 use std::simd::prelude::*;
 
-/// The number of words that a kernel processes at once.
+/// The number of words that are processed at once.
 const LANES: usize = 8;
 
-/// Whether some lane isn't 0.
+/// Returns whether any of the eight words isn't 0.
 #[inline(always)]
 fn any_lane(lanes: u64x8) -> bool
     ensures { MatchBool result (SomeWord lanes) (NoWord lanes) }
@@ -18,7 +19,7 @@ fn any_lane(lanes: u64x8) -> bool
     lanes.reduce_or() != 0
 }
 
-/// Whether some bit is set in both lists, within the eight words from `at` on.
+/// Returns whether some bit is set in both lists, within the eight words from the index `at` on.
 #[inline(always)]
 fn any_both_lanes(a: &[u64], b: &[u64], at: usize) -> bool
     requires a_in { at + 8 ≤ length a.now }
@@ -28,7 +29,7 @@ fn any_both_lanes(a: &[u64], b: &[u64], at: usize) -> bool
     any_lane(u64x8::from_slice(&a[at..]) & u64x8::from_slice(&b[at..]))
 }
 
-/// Whether some bit is set in the first list but not in the second, within the eight words from `at` on.
+/// Returns whether some bit is set in `a` and not in `b`, within the eight words from the index `at` on.
 #[inline(always)]
 fn any_outside_lanes(a: &[u64], b: &[u64], at: usize) -> bool
     requires a_in { at + 8 ≤ length a.now }
@@ -38,7 +39,7 @@ fn any_outside_lanes(a: &[u64], b: &[u64], at: usize) -> bool
     any_lane(u64x8::from_slice(&a[at..]) & !u64x8::from_slice(&b[at..]))
 }
 
-/// Sets the bits that are set in the other list, within the eight words from `at` on.
+/// Sets the bits in `into` that are set in `other`, within the eight words from the index `at` on.
 #[inline(always)]
 fn or_lanes(into: &mut [u64], other: &[u64], at: usize)
     requires into_in { at + 8 ≤ length into.old }
@@ -49,7 +50,7 @@ fn or_lanes(into: &mut [u64], other: &[u64], at: usize)
     joined.copy_to_slice(&mut into[at..]);
 }
 
-/// Clears the bits that are set in the other list, within the eight words from `at` on.
+/// Clears the bits in `from` that are set in `other`, within the eight words from the index `at` on.
 #[inline(always)]
 fn subtract_lanes(from: &mut [u64], other: &[u64], at: usize)
     requires from_in { at + 8 ≤ length from.old }
@@ -60,7 +61,7 @@ fn subtract_lanes(from: &mut [u64], other: &[u64], at: usize)
     left.copy_to_slice(&mut from[at..]);
 }
 
-/// Counts the bits that are set in the eight words from `at` on.
+/// Returns the number of bits that are set in the eight words from the index `at` on.
 #[inline(always)]
 fn count_lanes(words: &[u64], at: usize) -> u64
     requires { at + 8 ≤ length words.now }
@@ -69,7 +70,7 @@ fn count_lanes(words: &[u64], at: usize) -> u64
     u64x8::from_slice(&words[at..]).count_ones().reduce_sum()
 }
 
-/// Sets the bits that are set in the other list.
+/// Sets the bits in `into` that are set in `other`. Both lists have the same length.
 pub(crate) fn or_words(into: &mut [u64], other: &[u64])
     requires { length into.old ≡ length other.now }
     ensures { JoinsEach bit_or into.old other.now into.new }
@@ -86,7 +87,7 @@ pub(crate) fn or_words(into: &mut [u64], other: &[u64])
     }
 }
 
-/// Clears the bits that are set in the other list.
+/// Clears the bits in `from` that are set in `other`. Both lists have the same length.
 pub(crate) fn subtract_words(from: &mut [u64], other: &[u64])
     requires { length from.old ≡ length other.now }
     ensures { JoinsEach and_not from.old other.now from.new }
@@ -103,7 +104,7 @@ pub(crate) fn subtract_words(from: &mut [u64], other: &[u64])
     }
 }
 
-/// Whether some bit is set in both lists.
+/// Returns whether some bit is set in both lists, which have the same length.
 pub(crate) fn any_both(a: &[u64], b: &[u64]) -> bool
     requires { length a.now ≡ length b.now }
     ensures { MatchBool result (SomePair bit_and a.now b.now) (NoPair bit_and a.now b.now) }
@@ -125,7 +126,7 @@ pub(crate) fn any_both(a: &[u64], b: &[u64]) -> bool
     false
 }
 
-/// Whether some bit is set in the first list but not in the second.
+/// Returns whether some bit is set in `a` and not in `b`. Both lists have the same length.
 pub(crate) fn any_outside(a: &[u64], b: &[u64]) -> bool
     requires { length a.now ≡ length b.now }
     ensures { MatchBool result (SomePair and_not a.now b.now) (NoPair and_not a.now b.now) }
@@ -147,7 +148,7 @@ pub(crate) fn any_outside(a: &[u64], b: &[u64]) -> bool
     false
 }
 
-/// Counts the bits that are set.
+/// Returns the number of bits that are set, summed over all words. It must be less than 2^64.
 pub(crate) fn count_words(words: &[u64]) -> usize
     requires { sum_l (map count_ones words.now) < 2 ^ 64 }
     ensures { result ≡ sum_l (map count_ones words.now) }
@@ -166,7 +167,8 @@ pub(crate) fn count_words(words: &[u64]) -> usize
     count
 }
 
-/// Returns the union of the words whose indices are set in `chosen`.
+/// Returns the bitwise union of the words whose indices are set as bits in `chosen`: the bit `i` chooses the word with
+/// the index `i`. There must be a word for each set bit. If `chosen` is 0, the result is 0.
 pub(crate) fn union_of(words: &[u64], chosen: u64) -> u64
     requires { (i : ℕ) → i < 64 → bit_at chosen i ≡ 1 → i < length words.now }
     ensures { IsUnionOf words.now chosen result }

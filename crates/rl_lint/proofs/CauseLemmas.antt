@@ -4,7 +4,7 @@ use Rattle.std.proofs.lemmas.Grind.{common_steps}
 use Rattle.std.specs.Str.{chars}
 use Rattle.rl_source.specs.Asked.{call_of}
 use Rattle.rl_source.specs.Faults.{Rose}
-use Rattle.rl_source.specs.Told.{Told, after}
+use Rattle.rl_source.specs.Revealed.{Revealed, after}
 use Rattle.rl_source.specs.declared.nodes.CallName.TheVariants.{Read}
 use Rattle.rl_source.specs.declared.nodes.Node.{Node}
 use Rattle.rl_syntax.specs.Pattern.{pattern_ending, pattern_tree}
@@ -65,7 +65,7 @@ module _ (R : Type 0) (old new : Moment) where
 
 -- The map stays the same while the tree is asked.
 abbrev KeepsMap : Moment → Moment → Type 0
-KeepsMap old new = (t : Told) → old.told ≡ Some t → (u : Told) × (new.told ≡ Some u) × (u.nodes ≡ t.nodes)
+KeepsMap old new = (t : Revealed) → old.told ≡ Some t → (u : Revealed) × (new.told ≡ Some u) × (u.nodes ≡ t.nodes)
 
 module _ {A : Type 0} (Gives : Text → A → Type 0) (there : Text → List Node → Option Text) where
   kept : (path bytes : Text) (old new : Moment) → ReadsFile there path (Some bytes) old new → KeepsMap old new
@@ -82,7 +82,7 @@ module _ {A : Type 0} (Gives : Text → A → Type 0) (there : Text → List Nod
     refused = r.refused;
   }
     where
-      same : (t : Told) → (u : Told) × (new.told ≡ Some u) × (u.nodes ≡ t.nodes) → there r.path t.nodes ≡ Some r.bytes
+      same : (t : Revealed) → (u : Revealed) × (new.told ≡ Some u) × (u.nodes ≡ t.nodes) → there r.path t.nodes ≡ Some r.bytes
       same t k = subst (λ nodes. there r.path nodes ≡ Some r.bytes) k.2 (r.right k.0 k.1)
 
 -- What is refused was already refused at the start.

@@ -1,9 +1,8 @@
 -- How a run of `check` ends, given the walk over its paths.
-use Rattle.std.proofs.Common.{◌≡◌, ◌++◌, ℕ, Bool, true, false, if◌then◌else◌, nat_eq, List, [], Option, Some, None, codes, Result, Ok, Err, IfOk, Bor, All, map, ap, subst, sym, ◌∙◌, refl}
+use Rattle.std.proofs.Common.{◌≡◌, ◌++◌, ℕ, Bool, List, [], Option, Some, None, codes, Result, Ok, Err, IfOk, Bor, map, ap, subst, sym, ◌∙◌}
 use Rattle.std.specs.List.{list_any}
 use Rattle.std.specs.Prelude.{option_map}
 use Rattle.rl_report.specs.Findings.{is_finding}
-use Rattle.rl_report.specs.Layouts.{IsOfItsUniverse}
 use Rattle.rl_report.specs.declared.report.Entry.{Entry}
 use Rattle.rl_sarif.specs.Baseline.{IsBaseline}
 use Rattle.rl_sarif.specs.Keys.{EntryKey}
@@ -40,9 +39,6 @@ walked-first old new paths before now none w = record {
   cause = w.cause;
 }
 
-pub walked-universe : (old new : Moment) (paths : List Text) (c : Checked) → Walked old new paths (λ visits. visits ≡ []) (HasChecked c) → All IsOfItsUniverse c.entries
-walked-universe old new paths c w = (w.told [] refl).universe
-
 pub reports-walk : (s : Settings) (baseline : Option (List EntryKey)) (paths : List Text) (old new : Moment) (c : Checked) (visible : List Entry) (hidden : Option ℕ) (text : Text) (finding : Bool)
     → Walked old new paths (λ visits. visits ≡ []) (HasChecked c) → c.settings ≡ s → visible ≡ visible_entries baseline c.entries
     → hidden ≡ hidden_count baseline c.entries → text ≡ report_in s.format s hidden visible → finding ≡ list_any (is_finding s.max_degree) visible
@@ -66,11 +62,6 @@ reports-walk s baseline paths old new c visible hidden text finding w same is so
   failures = w.failures;
   cause = w.cause;
 }
-
--- A status is 1 if and only if there is a finding.
-pub is-finding : (found : Bool) (status : ℕ) → status ≡ (if found then 1 else 0) → nat_eq status 1 ≡ found
-is-finding true status is = ap (λ n. nat_eq n 1) is
-is-finding false status is = ap (λ n. nat_eq n 1) is
 
 -- ---- by what the baseline gives
 

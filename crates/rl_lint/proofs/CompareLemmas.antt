@@ -9,15 +9,15 @@ use Rattle.rl_syntax.specs.declared.re.Ending.TheVariants.{AtEnd, Anywhere}
 use Rattle.rl_equiv.specs.declared.compared.Compared.{Compared}
 use Rattle.rl_compare.specs.Matched.{matched_tree}
 use Rattle.rl_compare.specs.Exceeded.{IsCompareExceeded}
-use Rattle.rl_compare.specs.Told.{IsOfRegion}
+use Rattle.rl_compare.specs.Comparison.{IsOfRegion}
 use Rattle.rl_compare.specs.declared.error.CompareError.{CompareError}
 use Rattle.rl_compare.specs.declared.error.CompareError.TheVariants as error
-use Rattle.rl_lint.specs.CompareEnding.{CompareEnds, compared_text, passed_line, relation_of, is_difference}
+use Rattle.rl_lint.specs.CompareEnding.{CompareEnds, compared_text, exceeded_line, relation_of, is_difference}
 use Rattle.rl_lint.specs.Endings.{writes}
 use Rattle.rl_lint.specs.internal.Plans.{ending_of}
 use Rattle.rl_report.specs.Names.{Text}
 use Rattle.rl_lint.specs.declared.plan.Plan.{Plan}
-use Rattle.rl_lint.specs.internal.Compared.{AreTexts, IsFound, PassesSize}
+use Rattle.rl_lint.specs.internal.Compared.{AreTexts, IsFound, ExceedsSize}
 
 -- What follows a tree doesn't make it smaller.
 matched-larger : (t : Tree) (at : MatchEnd) → size t ≤ size (matched_tree Str t at)
@@ -25,13 +25,13 @@ matched-larger t AtEnd = omega arith
 matched-larger t Anywhere = omega arith
 
 module _ (s : Tree) (e : MatchEnd) (t : Tree) (f : MatchEnd) where
-  pub first-passes : (passed : CompareError) → PassesSize s passed → IsCompareExceeded Str (matched_tree Str s e) (matched_tree Str t f) passed
+  pub first-passes : (passed : CompareError) → ExceedsSize s passed → IsCompareExceeded Str (matched_tree Str s e) (matched_tree Str t f) passed
   first-passes error.Size large = inl (omega (arith, large, matched-larger s e))
   first-passes error.Letters large = absurd large
   first-passes error.Moves large = absurd large
   first-passes error.OutOfMemory large = tt
 
-  pub second-passes : (passed : CompareError) → PassesSize t passed → IsCompareExceeded Str (matched_tree Str s e) (matched_tree Str t f) passed
+  pub second-passes : (passed : CompareError) → ExceedsSize t passed → IsCompareExceeded Str (matched_tree Str s e) (matched_tree Str t f) passed
   second-passes error.Size large = inr (omega (arith, large, matched-larger t f))
   second-passes error.Letters large = absurd large
   second-passes error.Moves large = absurd large
@@ -45,7 +45,7 @@ module _ (s : Tree) (e : MatchEnd) (t : Tree) (f : MatchEnd) where
   writes-regions (Err failed) c found ends = tt
 
   pub names-passed : {E : Type 0} (result : Result Plan E) (found limit : CompareError) (line : Text)
-      → found ≡ limit → IsCompareExceeded Str (matched_tree Str s e) (matched_tree Str t f) found → passed_line limit ≡ Some line
+      → found ≡ limit → IsCompareExceeded Str (matched_tree Str s e) (matched_tree Str t f) found → exceeded_line limit ≡ Some line
       → IfOk result (λ plan. ending_of plan ≡ writes line false false) → IfOk result (λ plan. CompareEnds s e t f (ending_of plan))
   names-passed (Ok plan) found limit line is passed named ends =
       inl (limit, line, subst (IsCompareExceeded Str (matched_tree Str s e) (matched_tree Str t f)) is passed, named, ends)

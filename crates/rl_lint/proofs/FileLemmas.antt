@@ -4,7 +4,7 @@ use Rattle.std.specs.Prelude.{IfSome, IsSomeAnd, option_map}
 use Rattle.std.proofs.Math.Seq.{take-length}
 use Rattle.std.proofs.lemmas.List.{length-take, take_min}
 use Rattle.rl_source.specs.NodeMap.{bytes_at}
-use Rattle.rl_source.specs.Told.{Told}
+use Rattle.rl_source.specs.Revealed.{Revealed}
 use Rattle.rl_source.specs.declared.nodes.Node.{Node}
 use Rattle.rl_walk.specs.Visits.{Moment}
 use Rattle.rl_lint.specs.Endings.{Ending, refuses, unreadable}
@@ -23,9 +23,9 @@ first_of limit None bytes is = absurd is
 first_of limit (Some content) bytes is = ap Some (sym is)
 
 -- If the contract knows the map, the bytes are the first ones that the map has there.
-pub beginning : (told : Option Told) (limit : ℕ) (path bytes : Text)
+pub beginning : (told : Option Revealed) (limit : ℕ) (path bytes : Text)
     → IfSome told (λ t. IsSomeAnd (bytes_at t.nodes path) (λ content. bytes ≡ take limit content))
-    → (t : Told) → told ≡ Some t → bytes_up_to limit path t.nodes ≡ Some bytes
+    → (t : Revealed) → told ≡ Some t → bytes_up_to limit path t.nodes ≡ Some bytes
 beginning None limit path bytes is t told = cc
 beginning (Some this) limit path bytes is t told =
     let same : this ≡ t = cc in

@@ -6,7 +6,7 @@ use Rattle.rl_syntax.specs.declared.re.Mode.{Mode}
 use Rattle.rl_syntax.specs.declared.re.Mode.TheVariants.{Fullmatch}
 use Rattle.rl_walk.specs.Visits.{Moment}
 use Rattle.rl_judge.specs.declared.settings.Settings.{Settings}
-use Rattle.rl_words.specs.Call.{Call, asked, chosen, said}
+use Rattle.rl_words.specs.Call.{Call, asked, chosen, call_of}
 use Rattle.rl_words.specs.declared.words.Action.{Action}
 use Rattle.rl_words.specs.declared.words.Action.TheVariants.{Compare, Cost, Prove}
 use Rattle.rl_words.specs.declared.words.Options.{Options}
@@ -86,9 +86,9 @@ pub run-taken : {E : Type 0} (result : Result Plan E) (words : Words) (old mid n
     → IsNamedRead GivesSettings whole_bytes default_settings (option_map (λ p. p.now) words.options.settings) old mid found → found ≡ Taken start
     → s ≡ with_values words.options.values start
     → IfOk result (λ plan. IsActionEnding s (chosen words.options) (asked words.action) mid new (ending_of plan))
-    → IfOk result (λ plan. IsRunEnding (Some (said words)) old new (ending_of plan))
+    → IfOk result (λ plan. IsRunEnding (Some (call_of words)) old new (ending_of plan))
 run-taken result words old mid new found start s read is same ends =
-    call-taken (said words) result (option_map (λ p. p.now) words.options.settings) old mid new found start read is
+    call-taken (call_of words) result (option_map (λ p. p.now) words.options.settings) old mid new found start read is
     (subst (λ x. IfOk result (λ plan. IsActionEnding x (chosen words.options) (asked words.action) mid new (ending_of plan))) same ends)
 
 pub run-given : {E : Type 0} (result : Result Plan E) (given : Option Call) (call : Call) (old new : Moment) → given ≡ Some call
@@ -97,7 +97,7 @@ run-given result given call old new is ends = subst (λ o. IfOk result (λ plan.
 
 -- ---- words that don't ask the tree
 
-pub asks-none : (words : Words) → asks_tree (Some (said words)) ≡ false → (asks_itself (asked words.action) ≡ false) × (words.options.settings ≡ None)
+pub asks-none : (words : Words) → asks_tree (Some (call_of words)) ≡ false → (asks_itself (asked words.action) ≡ false) × (words.options.settings ≡ None)
 asks-none words asks = by_path (asks_itself (asked words.action)) words.options.settings asks
   where
     by_path : (itself : Bool) (path : Option (Bor Text)) → (itself || is_some (option_map (λ p. p.now) path)) ≡ false → (itself ≡ false) × (path ≡ None)

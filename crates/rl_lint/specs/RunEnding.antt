@@ -1,4 +1,8 @@
--- How a run ends, before the status is known. It depends on the words and on the answers of the tree.
+-- How a run ends, before the status is known. It depends on the words and on the answers of the tree. The tree of files is the
+-- file system that the run reads. A moment is this tree at one point in time: what it reveals about itself (its map of paths
+-- and the trail of the calls made on it, if it reveals them) and the number of its calls that failed. An ending says what the
+-- run does: it refuses with a message, it reports an unreadable file with a message, or it writes a text. The settings in
+-- force are the defaults, replaced by the values of the settings file, and these by the values of options.
 use Rattle.std.specs.Prelude.{◌≡◌, ◌||◌, Bool, true, false, Option, Some, None, codes, is_some}
 use Rattle.std.specs.Str.{chars}
 use Rattle.rl_syntax.specs.declared.re.Mode.TheVariants.{Fullmatch}
@@ -19,8 +23,10 @@ use Rattle.rl_lint.specs.SampleEnding.{IsSampleEnding}
 use Rattle.rl_report.specs.Names.{Text}
 use Rattle.rl_lint.specs.VerifyEnding.{IsVerifyEnding}
 
--- How an action ends under the settings in force, with the options of its call. `check` walks the tree and `verify` reads its
--- file; no other action asks the tree.
+-- How an action with its arguments ends under the settings `s`, with the options of its call. `check` reads its baseline, if
+-- one is named, and walks the tree of files; `verify` reads its file; every other action leaves this tree as it was
+-- (`new ≡ old`). The mode is that of the option `--mode`, or `fullmatch` if it isn't given; `check` and `sample` don't use it
+-- here, because it is already in `s`.
 abbrev pub IsActionEnding : Settings → Chosen → Asked → Moment → Moment → Ending → Type 0
 IsActionEnding s options (check paths) old new ending = IsCheckEnding s paths options.baseline old new ending
 IsActionEnding s options (class pattern) old new ending =
@@ -36,26 +42,30 @@ IsActionEnding s options (compare first second) old new ending =
     let mode = mode_given options.values.mode Fullmatch in
     (new ≡ old) × ParsesThen (chars first) mode (λ s e. ParsesThen (chars second) mode (CompareEnds s e)) ending
 
--- How a call ends. If a settings file is named, it is read first; values of options replace its values.
+-- How a call ends. If no settings file is named, the action is run with the defaults, in which the values of options replace
+-- the old ones. If one is named, it is read whole before the action and gives the values in place of the defaults; if it is
+-- unreadable or refused, the run ends there.
 abbrev pub IsCallEnding : Call → Option Text → Moment → Moment → Ending → Type 0
 IsCallEnding call None old new ending = IsActionEnding (with_values call.options.values default_settings) call.options call.action old new ending
 IsCallEnding call (Some file) old new ending =
     ReadsThen (codes "settings") whole_bytes GivesSettings (λ start. IsActionEnding (with_values call.options.values start) call.options call.action) file old new ending
 
--- How a run ends: with the usage text if its words aren't a valid call, otherwise as the call does.
+-- How a run ends: if its words aren't a valid call (`None`), it refuses with the usage text, and the tree isn't asked.
+-- Otherwise it ends as the call does.
 abbrev pub IsRunEnding : Option Call → Moment → Moment → Ending → Type 0
 IsRunEnding None old new ending = (new ≡ old) × (ending ≡ refuses usage_text)
 IsRunEnding (Some call) old new ending = IsCallEnding call call.options.settings old new ending
 
 -- ---- which words ask the tree
 
--- Whether the action itself asks the tree.
+-- Whether the action itself may ask the tree: only `check` and `verify` do, `verify` only if its pattern isn't refused.
 abbrev pub asks_itself : Asked → Bool
 asks_itself (check paths) = true
 asks_itself (verify pattern file) = true
 asks_itself _ = false
 
--- Whether the run asks the tree: its words are a valid call of `check` or `verify`, or of any action with a settings file.
+-- Whether the run may ask the tree: its words are a valid call, and its action is `check` or `verify` or a settings file is
+-- named.
 abbrev pub asks_tree : Option Call → Bool
 asks_tree None = false
 asks_tree (Some call) = asks_itself call.action || is_some call.options.settings

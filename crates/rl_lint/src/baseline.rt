@@ -1,4 +1,5 @@
-//! Reading the keys of a baseline.
+//! Reading the keys of a baseline. A baseline is an earlier report in JSON, whose entries are hidden in a new report. The key
+//! of an entry is everything in it by which a baseline recognizes it: its path, call and result, but not its line.
 ghost use Rattle.std.specs.Prelude.{◌≤◌, IfOk, None, Some, option_map};
 ghost use Rattle.rl_walk.specs.Visits.{moment_of};
 ghost use Rattle.rl_lint.specs.Files.{first_bytes};
@@ -26,7 +27,9 @@ fn keys_in(alloc: Global, bytes: Vec<u8>) -> Result<FileRead<Option<KnownKeys>>,
     }
 }
 
-/// Reads the baseline at `path`, with one call of the tree. Without a path there are no keys, and the tree isn't asked.
+/// Returns the keys of the baseline at `path`: `Unreadable` if the call of the tree fails, `Refused` if the bytes aren't a
+/// baseline, and otherwise `Taken` with its keys. The tree is asked once. Without a path the result is `Taken(None)`, and the
+/// tree isn't asked.
 ///
 /// # Errors
 /// [`OutOfMemory`] if memory runs out; the tree may have been read by then.

@@ -2,7 +2,6 @@
 ghost use Rattle.std.specs.Prelude.{◌≡◌, ◌≤◌, All, map, option_map, IfOk};
 ghost use Rattle.rl_judge.specs.RightEntries.{IsValid};
 ghost use Rattle.rl_report.specs.Layouts.{IsOfItsUniverse};
-ghost use Rattle.rl_report.specs.Reports.{report_text};
 ghost use Rattle.rl_walk.specs.Visits.{moment_of};
 ghost use Rattle.rl_lint.specs.CheckEnding.{IsCheckEnding, report_in};
 ghost use Rattle.rl_lint.specs.internal.Plans.{ending_of};
@@ -11,45 +10,15 @@ use crate::baseline::read_baseline;
 use crate::files::FileRead;
 use crate::filter::{Visible, visible_entries};
 use crate::plan::{Message, Plan};
-use rl_judge::{Checker, Layout, Settings, status_of};
+use rl_judge::{Checker, Layout, Settings, has_finding};
 use rl_lists::{Bytes, OutOfMemory};
-use rl_report::{Format, render, render_shown};
+use rl_report::render_shown;
 use rl_sarif::sarif;
 use rl_source::Tree;
 use rl_walk::walk;
 use std::alloc::Global;
 
-/// Builds the report on the visible entries in the given format.
-///
-/// # Errors
-/// [`OutOfMemory`] if memory runs out.
-fn report(
-    alloc: Global,
-    visible: &Visible,
-    format: Format,
-    settings: &Settings,
-) -> Result<Bytes, OutOfMemory>
-    requires valid { IsValid settings.now }
-    requires universe { All IsOfItsUniverse visible.now.entries }
-    ensures { IfOk result (λ text. text ≡ report_text format settings.now.max_degree settings.now.max_pairs
-        settings.now.report visible.now.hidden visible.now.entries) }
-{
-    let entries = &visible.entries;
-    let Settings {
-        max_degree,
-        max_pairs,
-        report,
-        ..
-    } = *settings;
-    match visible.hidden {
-        None => render(alloc, entries, format, max_degree, max_pairs, report),
-        Some(hidden) => render_shown(
-            alloc, entries, hidden, format, max_degree, max_pairs, report,
-        ),
-    }
-}
-
-/// Builds the report on the visible entries in the layout that the settings choose.
+/// Returns the report on the visible entries in the layout that the settings choose.
 ///
 /// # Errors
 /// [`OutOfMemory`] if memory runs out.
@@ -58,19 +27,23 @@ fn report_in(alloc: Global, visible: &Visible, settings: &Settings) -> Result<By
     requires universe { All IsOfItsUniverse visible.now.entries }
     ensures { IfOk result (λ text. text ≡ report_in settings.now.format settings.now visible.now.hidden visible.now.entries) }
 {
+    let Visible { entries, hidden } = visible;
+    let Settings {
+        max_degree,
+        max_pairs,
+        report,
+        ..
+    } = *settings;
     match settings.format {
-        Layout::Report(format) => report(alloc, visible, format, settings),
-        Layout::Sarif => sarif(
-            alloc,
-            &visible.entries,
-            settings.max_degree,
-            settings.max_pairs,
+        Layout::Report(format) => render_shown(
+            alloc, entries, *hidden, format, max_degree, max_pairs, report,
         ),
+        Layout::Sarif => sarif(alloc, entries, max_degree, max_pairs),
     }
 }
 
-/// Plans `check` for these paths under these settings. If a baseline is named, it is read before the walk over the paths
-/// begins.
+/// Returns the plan of `check` for these paths under these settings, which must be valid. If a baseline is named, it is read
+/// before the walk over the paths begins; if it is unreadable or refused, there is no walk.
 ///
 /// # Errors
 /// [`OutOfMemory`] if memory runs out; the tree may have been read by then.
@@ -94,17 +67,11 @@ pub fn check_plan<T: Tree>(
         FileRead::Taken(keys) => keys,
     };
     let mut checker = Checker::new(alloc, settings);
-    let Ok(()) = walk(alloc, paths, tree, &mut checker) else {
-        drop(checker);
-        drop(keys);
-        return Err(OutOfMemory);
-    };
+    walk(alloc, paths, tree, &mut checker)?;
     let failed = checker.has_unread();
     let visible = visible_entries(alloc, checker.into_entries(), keys)?;
-    let finding = status_of(&visible.entries, &settings) == 1;
-    let text = report_in(alloc, &visible, &settings);
-    drop(visible);
-    let text = text?;
+    let finding = has_finding(visible.entries.as_slice(), settings.max_degree);
+    let text = report_in(alloc, &visible, &settings)?;
     Ok(Plan::Writes {
         text,
         finding,

@@ -1,4 +1,5 @@
-//! The action `class`.
+//! The action `class`. It writes the verdict on its pattern, which says how the cost of matching grows with the length of the
+//! text. A live pair is a state of the pattern's automaton with the set of states that were tried before it.
 ghost use Rattle.std.specs.Prelude.{◌≡◌, ◌≤◌, ◌++◌, IfOk};
 ghost use Rattle.std.specs.Str.{chars};
 ghost use Rattle.rl_ranges.specs.declared.universe.Universe.TheVariants.{Str};
@@ -17,7 +18,7 @@ use rl_report::{family_line, is_finding, verdict_line};
 use rl_syntax::{Family, Limit, LowerError, Mode, Pattern, Universe, Verdict, lower};
 use std::alloc::Global;
 
-/// Appends the line of a family to a line.
+/// Returns a line with the line of a family appended.
 fn with_family(alloc: Global, line: Bytes, family: &Family) -> Result<Bytes, OutOfMemory>
     requires { IsFamilyOf Str family.now }
     ensures { IfOk result (λ text. text ≡ line ++ family_text_line Str family.now) }
@@ -48,7 +49,7 @@ fn class_text(alloc: Global, verdict: &Verdict, max_pairs: u32) -> Result<Bytes,
     }
 }
 
-/// Judges a text pattern in a mode.
+/// Returns the verdict on a text pattern in a mode, with at most `max_pairs` live pairs.
 ///
 /// # Errors
 /// [`OutOfMemory`] if memory runs out.
@@ -74,7 +75,7 @@ fn verdict_on(
     }
 }
 
-/// Plans `class` for a parsed text pattern in a mode.
+/// Returns the plan of `class` for a parsed text pattern in a mode.
 ///
 /// # Errors
 /// [`OutOfMemory`] if memory runs out.
@@ -102,8 +103,9 @@ fn pattern_plan(
     })
 }
 
-/// Plans `class` for a pattern argument in a mode. A degree above `max_degree` is a finding, and at most `max_pairs` live pairs
-/// are examined.
+/// Returns the plan of `class`: to refuse a pattern that the reader of patterns refuses; otherwise to write the verdict on the
+/// pattern in `mode` and, unless it is undecided, its family. It has a finding if the verdict is exponential or a degree above
+/// `max_degree`. At most `max_pairs` live pairs are examined, and `max_pairs` must be from 1 to 1,000.
 ///
 /// # Errors
 /// [`OutOfMemory`] if memory runs out.

@@ -7,7 +7,7 @@ ghost use Rattle.rl_ranges.specs.declared.universe.Universe.TheVariants.{Str};
 use rl_lists::{Codes, OutOfMemory};
 use std::alloc::Global;
 
-/// Returns the code points of a word, one for each character.
+/// Returns the code points of a word in order, one number for each character.
 ///
 /// # Errors
 /// [`OutOfMemory`] if there is no memory for the list.

@@ -1,4 +1,5 @@
-//! The action `compare`.
+//! The action `compare`. It writes how the texts that two patterns match are related. The limits bound the nodes of their
+//! trees, the letters (classes of characters that they don't distinguish), and the moves of their automata.
 ghost use Rattle.std.specs.Prelude.{◌≡◌, false, IfErr, IfOk};
 ghost use Rattle.std.specs.Str.{chars};
 ghost use Rattle.rl_ranges.specs.declared.universe.Universe.TheVariants.{Str};
@@ -10,7 +11,7 @@ ghost use Rattle.rl_lint.specs.Endings.{writes};
 ghost use Rattle.rl_lint.specs.internal.Plans.{ending_of};
 ghost use Rattle.rl_lint.specs.Messages.{undecided_line};
 ghost use Rattle.rl_lint.specs.CompareEnding.{CompareEnds, compared_text, relation_of, is_difference};
-ghost use Rattle.rl_lint.specs.internal.Compared.{AreTexts, IsFound, PassesSize};
+ghost use Rattle.rl_lint.specs.internal.Compared.{AreTexts, IsFound, ExceedsSize};
 ghost use Rattle.rl_lint.specs.Patterns.{ParsesThen};
 
 use crate::messages::undecided_line;
@@ -22,7 +23,7 @@ use rl_lists::OutOfMemory;
 use rl_syntax::{Limit, LowerError, Lowered, MOST_SET_PAIRS, Mode, Pattern, Universe, lower};
 use std::alloc::Global;
 
-/// Lowers a pattern in a mode.
+/// Returns a text pattern lowered in a mode.
 ///
 /// # Errors
 /// [`CompareError::Size`] if the pattern has more than 4,000 nodes; [`CompareError::OutOfMemory`] if memory runs out.
@@ -31,7 +32,7 @@ fn lowered(alloc: Global, pattern: &Pattern, mode: Mode) -> Result<Lowered, Comp
     ensures tree { IfOk result (λ l. tree_of l.tree ≡ pattern_tree pattern.now mode) }
     ensures ending { IfOk result (λ l. l.ending ≡ pattern_ending pattern.now mode) }
     ensures over { IfOk result (λ l. IsOver Str (tree_of l.tree)) }
-    ensures passed { IfErr result (λ e. PassesSize (pattern_tree pattern.now mode) e) }
+    ensures passed { IfErr result (λ e. ExceedsSize (pattern_tree pattern.now mode) e) }
 {
     match lower(alloc, pattern, mode) {
         Ok(lowered) => Ok(lowered),
@@ -40,11 +41,11 @@ fn lowered(alloc: Global, pattern: &Pattern, mode: Mode) -> Result<Lowered, Comp
     }
 }
 
-/// Compares the texts that two text patterns match in a mode.
+/// Compares what two text patterns match in a mode, and returns the texts that were found.
 ///
 /// # Errors
-/// [`CompareError`] names the first limit that one of the two matched trees exceeds. The limit of letters applies to both trees
-/// together.
+/// [`CompareError`] names the first limit that one of the two matched trees exceeds, or says that memory runs out. The limit
+/// of letters applies to both trees together.
 fn compared(
     alloc: Global,
     first: &Pattern,
@@ -67,7 +68,7 @@ fn compared(
     }
 }
 
-/// Plans the line for an exceeded limit. It is never the limit of pairs, and it isn't a finding.
+/// Returns the plan to write the line on an exceeded limit, which isn't a finding. The limit is never the one on live pairs.
 ///
 /// # Errors
 /// [`OutOfMemory`] if memory runs out.
@@ -82,7 +83,7 @@ fn limit_plan(alloc: Global, limit: Limit) -> Result<Plan, OutOfMemory>
     })
 }
 
-/// Plans the lines on the result of a comparison.
+/// Returns the plan to write the lines on the result of a comparison.
 ///
 /// # Errors
 /// [`OutOfMemory`] if memory runs out.
@@ -99,7 +100,7 @@ fn compared_plan(alloc: Global, compared: &Compared) -> Result<Plan, OutOfMemory
     })
 }
 
-/// Plans `compare` for two parsed text patterns in a mode.
+/// Returns the plan of `compare` for two parsed text patterns in a mode.
 ///
 /// # Errors
 /// [`OutOfMemory`] if memory runs out.
@@ -127,7 +128,7 @@ fn patterns_plan(
     }
 }
 
-/// Plans `compare` for a parsed first pattern and the argument that gives the second one.
+/// Returns the plan of `compare` for a parsed first pattern and the argument that gives the second one.
 ///
 /// # Errors
 /// [`OutOfMemory`] if memory runs out.
@@ -151,7 +152,10 @@ fn second_plan(
     }
 }
 
-/// Plans `compare` for two pattern arguments in a mode. Both are parsed before either is lowered.
+/// Returns the plan of `compare`. If the reader of patterns refuses `first`, the plan refuses it; otherwise, if the reader
+/// refuses `second`, it refuses that. Otherwise it writes the line on the first limit that the patterns exceed or, if they
+/// exceed none, how the texts that they match in `mode` are related. Only a relation that says that they don't match the same
+/// texts is a finding. That the search for a difference gave up isn't one.
 ///
 /// # Errors
 /// [`OutOfMemory`] if memory runs out.

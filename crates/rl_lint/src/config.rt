@@ -39,8 +39,8 @@ fn settings_in(alloc: Global, bytes: &Vec<u8>) -> Result<FileRead<Settings>, Out
     }
 }
 
-/// Reads the settings file at `path` whole, with one call of the tree. Without a path the result is the defaults, and the tree
-/// isn't asked.
+/// Returns the settings that the file at `path` gives, or that it is unreadable or refused. It is read whole, with one call of
+/// the tree. Without a path the result is the defaults, and the tree isn't asked.
 ///
 /// # Errors
 /// [`OutOfMemory`] if memory runs out; the tree may have been read by then.

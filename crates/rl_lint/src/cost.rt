@@ -1,4 +1,4 @@
-//! The action `cost`.
+//! The action `cost`. It writes how many steps a match of its text takes. A plan says what the run writes and how it ends.
 ghost use Rattle.std.specs.Prelude.{◌≡◌, IfOk};
 ghost use Rattle.std.specs.Str.{chars};
 ghost use Rattle.rl_ranges.specs.declared.universe.Universe.TheVariants.{Str};
@@ -16,7 +16,7 @@ use rl_lists::OutOfMemory;
 use rl_syntax::{Mode, Pattern};
 use std::alloc::Global;
 
-/// Plans `cost` for a parsed text pattern and a text in a mode.
+/// Returns the plan of `cost` for a parsed text pattern and a text in a mode.
 ///
 /// # Errors
 /// [`OutOfMemory`] if memory runs out.
@@ -42,7 +42,10 @@ fn pattern_plan(
     })
 }
 
-/// Plans `cost` for a pattern argument and a text in a mode.
+/// Returns the plan of `cost` for the pattern and the text of its words: to refuse a pattern that the reader of patterns
+/// refuses; otherwise to refuse a text of more than [`MOST_TEXT_CODES`] characters; otherwise to write one line, on the first
+/// limit that the pattern exceeds, or else on the number of steps that the match takes. A text is matched in `mode`. The plan
+/// has neither a finding nor a failed call.
 ///
 /// # Errors
 /// [`OutOfMemory`] if memory runs out.

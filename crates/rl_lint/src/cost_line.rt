@@ -1,4 +1,5 @@
-//! The line that `cost` writes.
+//! The line that `cost` writes. Letters are classes of characters that the pattern doesn't distinguish, and a move leads from
+//! one state of its automaton to another on a letter.
 ghost use Rattle.std.specs.Prelude.{◌≡◌, ◌<◌, ◌≤◌, All, IfOk};
 ghost use Rattle.rl_ranges.specs.Text.{IsText};
 ghost use Rattle.rl_ranges.specs.declared.universe.Universe.TheVariants.{Str};
@@ -18,7 +19,7 @@ use rl_prio::{Prio, PrioError};
 use rl_syntax::{Limit, LowerError, Lowered, Mode, Pattern, Universe, lower};
 use std::alloc::Global;
 
-/// Returns the line on the steps that an automaton takes on a text.
+/// Returns the line on the steps that an automaton takes on a text, and on whether it matches the text.
 ///
 /// # Errors
 /// [`OutOfMemory`] if memory runs out.
@@ -55,8 +56,9 @@ fn lowered_line(alloc: Global, lowered: &Lowered, text: &Codes) -> Result<Bytes,
     }
 }
 
-/// Returns the line that `cost` writes for a text pattern in a mode and a text: the number of steps, or the first limit that is
-/// exceeded.
+/// Returns the line that `cost` writes: on the first limit that the pattern exceeds, in the order of nodes, letters and moves,
+/// or else on the number of steps that the match of `text` in `mode` takes, and on how it ends. The pattern must be one for
+/// texts of type `str`, and each code of `text` must be a code point of the universe `str`.
 ///
 /// # Errors
 /// [`OutOfMemory`] if memory runs out.

@@ -1,4 +1,5 @@
-//! Files that the words name. Each is read with one call of the tree, and then its bytes are accepted or refused.
+//! Files that the words name. Each is read with one call of the tree, which is the file system that the run reads, and then
+//! its bytes are accepted or refused.
 ghost use Rattle.std.specs.Prelude.{◌≤◌, IfOk, option_map};
 ghost use Rattle.rl_walk.specs.Visits.{moment_of};
 ghost use Rattle.rl_lint.specs.Files.{ReadsFile};
@@ -7,19 +8,19 @@ ghost use Rattle.rl_lint.specs.internal.Reads.{bytes_up_to};
 use rl_lists::OutOfMemory;
 use rl_source::{Tree, TreeError};
 
-/// The result of reading a file.
+/// The result of reading a file, whose content is of the type `T`.
 #[derive(Drop)]
 pub enum FileRead<T> {
     /// The file couldn't be read.
     Unreadable,
     /// The file's bytes are refused.
     Refused,
-    /// The file was accepted, with this content.
+    /// The file was accepted, and its bytes give this value.
     Taken(T),
 }
 
-/// Reads the first `at_most` bytes of the file at `path`, or all of them if there are fewer. Returns `None` if they can't be
-/// read. The tree is asked once.
+/// Returns the first `at_most` bytes of the file at `path`, or all of them if there are fewer, or `None` if the call fails.
+/// The tree is asked once, for this file.
 ///
 /// # Errors
 /// [`OutOfMemory`] if memory runs out.

@@ -1,4 +1,6 @@
-//! The entries that a report shows: those that the baseline doesn't know.
+//! The entries that a report shows: those that the baseline doesn't know. An entry is one result of a report: for a call of
+//! `re` whose pattern is a literal, for a source that can't be cut into tokens, or for a path without a source. A baseline is
+//! an earlier report in JSON, which knows the entries that it has itself.
 ghost use Rattle.std.specs.Prelude.{◌≡◌, All, IfOk};
 ghost use Rattle.rl_report.specs.Layouts.{IsOfItsUniverse};
 ghost use Rattle.rl_lint.specs.Filter.{hidden_count, unknown_entries, visible_entries};
@@ -13,11 +15,11 @@ use std::alloc::Global;
 pub struct Visible {
     /// The entries, in their order.
     pub entries: Entries,
-    /// The number of entries that the baseline hides, or `None` without a baseline.
+    /// The number of entries that the baseline hides, or `None` if there is no baseline.
     pub hidden: Option<usize>,
 }
 
-/// Keeps the entries that a baseline doesn't know, in their order. They are moved to the front in place, which works because
+/// Returns the entries that a baseline doesn't know, in their order. They are moved to the front in place, which works because
 /// their positions increase.
 ///
 /// # Errors
@@ -41,7 +43,9 @@ fn unknown_entries(
     Ok(Entries::from_vec(moved))
 }
 
-/// Returns the entries that a report shows: those that the baseline doesn't know, or all of them if there is no baseline.
+/// Returns the entries that a report shows: those that the baseline doesn't know, in their order, with the number of the
+/// others; or all of them, with `hidden` as `None`, if there is no baseline. The texts in each entry must be texts of its
+/// universe, `str` or `bytes`.
 ///
 /// # Errors
 /// [`OutOfMemory`] if memory runs out.

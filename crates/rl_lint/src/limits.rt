@@ -10,7 +10,7 @@ pub const MOST_TEXT_CODES: usize = 65_536;
 /// too long.
 pub const MOST_READ: usize = 67_108_865;
 
-/// The numbers of the limits.
+/// The numbers of the limits: 65,536 characters of a text, and 67,108,865 bytes of a file.
 pub fn limits_are()
     ensures text_codes { MOST_TEXT_CODES ≡ 65536 }
     ensures read { MOST_READ ≡ 67108865 }

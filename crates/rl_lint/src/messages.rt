@@ -12,7 +12,8 @@ use rl_report::verdict_line;
 use rl_syntax::{Limit, Verdict};
 use std::alloc::Global;
 
-/// Returns the message on a pattern that is refused for this cause at this code point, counted from 0.
+/// Returns the message, with its line feed, on a pattern that is refused, such as `relint: refused syntax at 3`. `cause` is
+/// the name of the reason, and `place` the number of the code point, counted from 0.
 ///
 /// # Errors
 /// [`OutOfMemory`] if memory runs out.
@@ -23,7 +24,8 @@ pub fn refused_at(alloc: Global, cause: &str, place: u32) -> Result<Message, Out
     Ok(Message::Made(text))
 }
 
-/// Returns the line on an exceeded limit. `max_pairs` is the limit of live pairs that was in force.
+/// Returns the line, with its line feed, on an exceeded limit, such as `undecided moves over 256`. `max_pairs` is used only if
+/// the limit is that of live pairs, which are pairs of a state and a set of states: it is then the number in the line.
 ///
 /// # Errors
 /// [`OutOfMemory`] if memory runs out.
@@ -40,7 +42,9 @@ fn outcome(matched: bool) -> &'static str
     if matched { " matched\n" } else { " refused\n" }
 }
 
-/// Returns the line on the number of steps that a match takes and on how it ends.
+/// Returns the line, with its line feed, on the number of steps that a match takes and on how it ends, such as
+/// `steps 5 matched` or `steps 5 refused`. A number above 2^128 - 1 isn't written out: the line then begins with
+/// `steps over 340282366920938463463374607431768211455`.
 ///
 /// # Errors
 /// [`OutOfMemory`] if memory runs out.

@@ -1,4 +1,5 @@
-//! Settings with given values in place of others.
+//! Settings with given values in place of others. The mode is the way in which a pattern is matched: `fullmatch`, `match` or
+//! `search`.
 ghost use Rattle.std.specs.Prelude.{◌≡◌, option_map, unwrap_or};
 ghost use Rattle.rl_words.specs.Call.{AreInRange};
 ghost use Rattle.rl_judge.specs.RightEntries.{IsValid};
@@ -9,7 +10,7 @@ use rl_report::Format;
 use rl_syntax::Mode;
 use rl_words::{FormatWord, ModeWord, PartialSettings};
 
-/// Returns the given mode, or the default if none is given.
+/// Returns the mode that `word`, a value of the option `--mode`, names, or `default` if none is given.
 pub fn mode_given(word: Option<ModeWord>, default: Mode) -> Mode
     ensures { result ≡ mode_given word default }
 {
@@ -21,7 +22,7 @@ pub fn mode_given(word: Option<ModeWord>, default: Mode) -> Mode
     }
 }
 
-/// Returns the given layout, or the default if none is given.
+/// Returns the layout that the given word names, or `default` if none is given.
 fn layout_given(word: Option<FormatWord>, default: Layout) -> Layout
     ensures { result ≡ unwrap_or (option_map layout_of word) default }
 {
@@ -34,7 +35,9 @@ fn layout_given(word: Option<FormatWord>, default: Layout) -> Layout
     }
 }
 
-/// Returns the settings `start`, with each value given in `values` in place of the old one.
+/// Returns the settings `start`, with each value given in `values` in place of the old one; a mode that is given replaces
+/// `compile_as`. `start` must be valid: the limit of live pairs is from 1 to 1,000, and the report version is 1 or 2. The
+/// values must be in their ranges.
 pub fn with_values(values: &PartialSettings, start: &Settings) -> Settings
     requires ranges { AreInRange values.now }
     requires valid { IsValid start.now }

@@ -1,4 +1,4 @@
-//! Arguments of the command line that are patterns.
+//! Arguments of the command line that are patterns. The reader of patterns parses their code points or refuses them.
 ghost use Rattle.std.specs.Prelude.{◌≡◌, IfOk, Some};
 ghost use Rattle.std.specs.Str.{chars};
 ghost use Rattle.rl_lint.specs.internal.Plans.{message_text};
@@ -19,7 +19,7 @@ use std::alloc::Global;
 pub enum PatternArgument {
     /// The pattern is refused, with this message.
     Refused(Message),
-    /// The parsed pattern, over text.
+    /// The parsed pattern, which is one for texts of type `str`.
     Parsed(Pattern),
 }
 
@@ -50,7 +50,9 @@ fn refusal(alloc: Global, error: PatError) -> Result<Message, OutOfMemory>
     }
 }
 
-/// Parses a pattern argument, without call flags.
+/// Returns the pattern that `word` spells, parsed as a pattern of type `str` without flags, or the message on it if the reader
+/// of patterns refuses it: for a syntax error, for nesting that is too deep, for a feature that isn't judged, or for its
+/// length.
 ///
 /// # Errors
 /// [`OutOfMemory`] if memory runs out.

@@ -1,4 +1,5 @@
-//! The plan of a run, worked out before anything is written.
+//! The plan of a run, worked out before anything is written. The tree is the file system that the run reads. A call of the
+//! tree asks it for one file or folder, and it may fail.
 ghost use Rattle.std.specs.Prelude.{◌≡◌, ◌≤◌, false, map, true, IfOk};
 ghost use Rattle.std.specs.String.{string_bytes};
 ghost use Rattle.rl_judge.specs.RightEntries.{IsValid};
@@ -37,7 +38,7 @@ pub enum Message {
 }
 
 impl Message {
-    /// Returns the text of the message.
+    /// Returns the text of the message, with its line feed.
     pub fn as_str(&self) -> &str
         ensures { result.now ≡ message_text self.now }
     {
@@ -48,7 +49,7 @@ impl Message {
     }
 }
 
-/// What a run is going to do.
+/// What a run is going to write, and how it ends. `out` is its standard output.
 #[derive(Drop)]
 pub enum Plan {
     /// Refuse what the words ask for, with this message.
@@ -57,13 +58,16 @@ pub enum Plan {
     Unreadable(Message),
     /// Write this text. The flags decide the status: whether the text has a finding, and whether a call of the tree failed.
     Writes {
+        /// The text for `out`.
         text: Bytes,
+        /// Whether there is a finding, such as an exponential verdict.
         finding: bool,
+        /// Whether a call of the tree failed.
         failed: bool,
     },
 }
 
-/// Plans an action with these options under the settings in force.
+/// Returns the plan of an action with these options under the settings in force.
 ///
 /// # Errors
 /// [`OutOfMemory`] if memory runs out; in `check` and `verify`, the tree may have been read by then.
@@ -102,8 +106,10 @@ fn action_plan<T: Tree>(
     }
 }
 
-/// Plans a run with these words. If the words name a settings file, it is read first. `check` then reads its baseline, if one
-/// is named, and walks over the tree; `verify` reads its certificate. The tree is asked for nothing else.
+/// Returns the plan of a run with these words. If they aren't a valid call, it is to refuse them with the usage text. If they
+/// name a settings file, it is read first, and if it can't be read or is refused, the plan says so. Otherwise it is the plan
+/// of the action: `check` reads its baseline, if one is named, and walks over the tree; `verify` reads its certificate. The
+/// tree is asked for nothing else.
 ///
 /// # Errors
 /// [`OutOfMemory`] if memory runs out; the tree may have been read by then.

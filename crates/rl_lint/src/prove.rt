@@ -1,4 +1,5 @@
-//! The action `prove`.
+//! The action `prove`. It writes a certificate, which is data that shows that a verdict is right. A live pair is a state of
+//! the pattern's automaton with the set of states that were tried before it.
 ghost use Rattle.std.specs.Prelude.{◌≡◌, ◌≤◌, false, IfErr, IfOk};
 ghost use Rattle.std.specs.Str.{chars};
 ghost use Rattle.rl_ranges.specs.declared.universe.Universe.TheVariants.{Str};
@@ -17,7 +18,7 @@ use rl_lists::{Bytes, OutOfMemory};
 use rl_syntax::{Limit, LowerError, Mode, Pattern, Universe, lower};
 use std::alloc::Global;
 
-/// Makes a certificate for a text pattern in a mode.
+/// Returns a certificate for a text pattern in a mode.
 ///
 /// # Errors
 /// The errors of [`make`], and [`CertError::Undecided`] with [`Limit::Size`] if the pattern has more than 4,000 nodes.
@@ -44,7 +45,7 @@ fn certificate_of(
     }
 }
 
-/// Plans to write a text that has no finding.
+/// Returns the plan to write a text that has no finding.
 fn text_plan(text: Bytes) -> Plan
     ensures { ending_of result ≡ writes text false false }
 {
@@ -55,7 +56,7 @@ fn text_plan(text: Bytes) -> Plan
     }
 }
 
-/// Plans `prove` for a parsed text pattern in a mode.
+/// Returns the plan of `prove` for a parsed text pattern in a mode.
 ///
 /// # Errors
 /// [`OutOfMemory`] if memory runs out.
@@ -88,7 +89,10 @@ fn pattern_plan(
     }
 }
 
-/// Plans `prove` for a pattern argument in a mode. At most `max_pairs` live pairs are examined.
+/// Returns the plan of `prove`: to refuse a pattern that the reader of patterns refuses; otherwise to write a certificate of
+/// the verdict on the pattern in `mode`, or the line on the limit that is exceeded, or the line that the certificate needs
+/// more than 1,000,000 triples. None of them is a finding. At most `max_pairs` live pairs are examined, and `max_pairs` must
+/// be from 1 to 1,000.
 ///
 /// # Errors
 /// [`OutOfMemory`] if memory runs out.

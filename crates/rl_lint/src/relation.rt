@@ -1,4 +1,7 @@
-//! How two patterns are related, and the lines that `compare` writes about it.
+//! How two patterns are related, and the lines that `compare` writes about it. The texts that the patterns match are in three
+//! regions: `first` for those that only the first matches, `second` for those that only the second matches, and `both`. A set
+//! pair is a set of states of the first automaton with a set of states of the second. A search over the set pairs looks for a
+//! text of each region, up to a limit of set pairs.
 ghost use Rattle.std.specs.Prelude.{◌≡◌, ◌++◌, Some, IfOk, IfSome, OnOk, codes};
 ghost use Rattle.std.specs.String.{string_bytes};
 ghost use Rattle.rl_ranges.specs.Text.{IsText};
@@ -17,8 +20,8 @@ use std::alloc::Global;
 pub enum Relation {
     /// Each pattern matches a text that the other doesn't match, and they share a text.
     Overlapping,
-    /// The limit of set pairs was exceeded, so the relation wasn't decided. The line that `compare` writes calls this "passed".
-    Passed,
+    /// The limit of set pairs was exceeded, so the relation wasn't decided. The line that `compare` writes says `passed over`.
+    Exceeded,
     /// Both patterns match the same texts.
     Equal,
     /// The second pattern matches every text that the first matches, and others.
@@ -30,7 +33,9 @@ pub enum Relation {
 }
 
 impl Relation {
-    /// Returns the first relation that holds, in the order of the variants.
+    /// Returns the relation that these texts show: `Overlapping` if all three regions have a text; otherwise `Exceeded` if not
+    /// all set pairs were looked at; otherwise `Equal`, `Included` or `Includes` if neither of the first two regions has a
+    /// text, or if only the first or only the second has none; otherwise `Disjoint`.
     pub fn of(compared: &Compared) -> Relation
         ensures { result ≡ relation_of compared.now }
     {
@@ -39,7 +44,7 @@ impl Relation {
         if first && second && compared.both.is_some() {
             Relation::Overlapping
         } else if compared.more {
-            Relation::Passed
+            Relation::Exceeded
         } else if !first && !second {
             Relation::Equal
         } else if !first {
@@ -57,7 +62,7 @@ impl Relation {
     {
         let name = match self {
             Relation::Overlapping => "overlapping",
-            Relation::Passed => {
+            Relation::Exceeded => {
                 return Ok(format!(in alloc; "passed over {MOST_SET_PAIRS}")?);
             }
             Relation::Equal => "equal",
@@ -69,12 +74,13 @@ impl Relation {
         Ok(name)
     }
 
-    /// Whether the relation is a finding.
+    /// Returns whether the relation is a finding, because the patterns were found not to match the same texts: true for every
+    /// relation except `Equal` and `Exceeded`.
     pub fn is_difference(self) -> bool
         ensures { result ≡ is_difference self }
     {
         match self {
-            Relation::Equal | Relation::Passed => false,
+            Relation::Equal | Relation::Exceeded => false,
             _ => true,
         }
     }
@@ -124,7 +130,9 @@ fn push_regions(alloc: Global, out: &mut Vec<u8>, compared: &Compared) -> Result
     push_region(alloc, out, "both", &compared.both)
 }
 
-/// Returns the lines on the result of a comparison.
+/// Returns the lines on the result of a comparison: the relation, and then a line for each region that has a text, in the
+/// order `first`, `second` and `both`. `relation` must be the one that `compared` shows (`Relation::of`), and the texts of the
+/// regions must consist of code points of `str`.
 ///
 /// # Errors
 /// [`OutOfMemory`] if memory runs out.

@@ -35,12 +35,12 @@ fn status_of(finding: bool, failed: bool) -> u8
 /// | 0 | everything was written, there is no finding, and no call of the tree failed |
 /// | 1 | everything was written, there is a finding, and no call of the tree failed |
 /// | 2 | the words aren't a valid call, or the settings, the baseline, the certificate or what they ask for is refused |
-/// | 3 | everything was written and a call of the tree failed, or the settings, the baseline or the certificate couldn't be read |
+/// | 3 | everything was written and a call of the tree failed, or the settings, baseline or certificate couldn't be read |
 /// | 4 | a write to `out` failed |
 /// | 5 | memory ran out; nothing was written to `out` |
 ///
-/// A finding is an exponential verdict, a degree above `max-degree`, a certificate that doesn't hold, or two patterns that were
-/// found not to match the same texts.
+/// A finding is an exponential verdict, a degree above `max-degree`, a certificate that doesn't hold, or two patterns that
+/// were found not to match the same texts.
 ///
 /// If the words name a settings file, it is read whole before anything else. If it can't be read or is refused, the run ends
 /// there, and nothing is written to `out`. Its values replace the defaults, and values of options replace both; `compile-as`
@@ -54,9 +54,9 @@ fn status_of(finding: bool, failed: bool) -> u8
 /// read or is refused, nothing is written to `out`.
 ///
 /// Everything that a run writes is built first and then written to `out`. With status 2, 4 or 5, and if the settings, the
-/// baseline or the certificate can't be read, a message is written to `err`. If a write to `err` fails, the rest of the message
-/// is dropped, and the status stays the same. `check` walks over the tree from its paths, and goes on after a call that failed.
-/// The other actions ask the tree for nothing but the settings file and, in `verify`, the certificate.
+/// baseline or the certificate can't be read, a message is written to `err`. If a write to `err` fails, the rest of the
+/// message is dropped, and the status stays the same. `check` walks over the tree from its paths, and goes on after a call
+/// that failed. The other actions ask the tree for nothing but the settings file and, in `verify`, the certificate.
 pub fn relint_main<T: Tree, O: Sink, E: Sink>(
     alloc: Global,
     words: &Vec<String>,
@@ -99,6 +99,7 @@ pub fn relint_main<T: Tree, O: Sink, E: Sink>(
             },
         ) => match write_all(out, text.as_slice()) {
             Ok(()) => {
+                // This writes nothing. Its contract tells the prover that `err` gains nothing.
                 write_message(err, "");
                 status_of(finding, failed)
             }

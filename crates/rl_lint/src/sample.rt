@@ -5,14 +5,16 @@ ghost use Rattle.rl_lint.specs.internal.Plans.{ending_of};
 ghost use Rattle.rl_lint.specs.SampleEnding.{IsSampleEnding};
 
 use crate::plan::Plan;
-use rl_judge::{Settings, judge, status_of};
+use rl_judge::{Settings, has_finding, judge};
 use rl_lists::OutOfMemory;
 use rl_report::summary_line;
 use rl_sample::sample_source;
 use rl_source::Name;
 use std::alloc::Global;
 
-/// Plans `sample`: it judges the sampled source, as a file named `sample.py`, and writes the last line of the text report.
+/// Returns the plan of `sample`: the generated source for this seed and count is judged, as a file named `sample.py`, and the
+/// last line of the text report is written. The seed must be less than 2^31, the count from 1 to 20,000, and the settings
+/// valid.
 ///
 /// # Errors
 /// [`OutOfMemory`] if memory runs out.
@@ -31,10 +33,8 @@ pub fn sample_plan(
     let source = sample_source(alloc, seed, count)?;
     let path = Name::from_text(alloc, "sample.py")?;
     let entries = judge(alloc, &path, source.as_slice(), settings)?;
-    let finding = status_of(&entries, settings) == 1;
-    let text = summary_line(alloc, &entries, settings.max_degree);
-    drop(entries);
-    let text = text?;
+    let finding = has_finding(entries.as_slice(), settings.max_degree);
+    let text = summary_line(alloc, &entries, settings.max_degree)?;
     Ok(Plan::Writes {
         text,
         finding,

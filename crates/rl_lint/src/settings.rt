@@ -9,11 +9,12 @@ use rl_judge::Settings;
 use rl_settings::{SettingsError, read_settings};
 use std::alloc::Global;
 
-/// Returns the settings `start`, with the values of a settings file with these bytes in place of the old ones.
+/// Returns the settings `start`, which must be valid, with the values of a settings file with these bytes in place of the old
+/// ones.
 ///
 /// # Errors
-/// [`SettingsError::Refused`] if and only if the bytes aren't a TOML document, a key isn't one of `compile-as`, `max-degree`,
-/// `max-pairs`, `format` and `report`, or a key doesn't take its value; [`SettingsError::OutOfMemory`] if memory runs out.
+/// [`SettingsError::Refused`] if the bytes aren't a TOML document, a key isn't one of `compile-as`, `max-degree`, `max-pairs`,
+/// `format` and `report`, or a key doesn't take its value; [`SettingsError::OutOfMemory`] if memory runs out first.
 pub fn settings_from(
     alloc: Global,
     bytes: &Vec<u8>,
@@ -24,8 +25,6 @@ pub fn settings_from(
     ensures valid { IfOk result IsValid }
     ensures refused { IsErrOf result SettingsError.Refused → file_values bytes.now.items ≡ None }
 {
-    match read_settings(alloc, bytes.as_slice()) {
-        Ok(values) => Ok(with_values(&values, start)),
-        Err(error) => Err(error),
-    }
+    let values = read_settings(alloc, bytes.as_slice())?;
+    Ok(with_values(&values, start))
 }

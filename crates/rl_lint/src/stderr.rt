@@ -4,7 +4,7 @@ ghost use Rattle.rl_lint.specs.Sinks.{GainsMessage, sink_change};
 
 use rl_source::{Sink, write_all};
 
-/// Writes a message. If a write fails, the rest of the message is dropped.
+/// Writes the text to `err`. If a write fails, the rest of the text is dropped, and nothing is reported.
 pub fn write_message<E: Sink>(err: &mut E, text: &str)
     ensures message { GainsMessage text.now (sink_change E.bytes E.fault_count err.old err.new) }
     ensures counts { E.fault_count err.old ≤ E.fault_count err.new }

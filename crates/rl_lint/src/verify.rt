@@ -1,4 +1,5 @@
-//! The action `verify`.
+//! The action `verify`. It checks a certificate, which is data in a file that shows that a verdict is right. A live pair is a
+//! state of the pattern's automaton with the set of states that were tried before it.
 ghost use Rattle.std.specs.Prelude.{◌≡◌, ◌≤◌, ◌↔◌, IfOk, IsTrue, Some};
 ghost use Rattle.std.specs.Str.{chars};
 ghost use Rattle.rl_ranges.specs.declared.universe.Universe.TheVariants.{Str};
@@ -10,7 +11,7 @@ ghost use Rattle.rl_lint.specs.internal.Plans.{ending_of};
 ghost use Rattle.rl_lint.specs.Files.{first_bytes};
 ghost use Rattle.rl_lint.specs.Patterns.{text_question};
 ghost use Rattle.rl_lint.specs.VerifyEnding.{CertificateEnds, IsVerifyEnding, TreeVerifies};
-ghost use Rattle.rl_lint.specs.internal.Made.{held_text};
+ghost use Rattle.rl_lint.specs.internal.Made.{verify_text};
 ghost use Rattle.rl_lint.specs.internal.Reads.{IsFileRead, IsGiven};
 
 use crate::files::{FileRead, read_file};
@@ -39,7 +40,7 @@ fn certificate_in(alloc: Global, bytes: Vec<u8>) -> Result<FileRead<Certificate>
     }
 }
 
-/// Reads the certificate at `path`, with one call of the tree.
+/// Returns the certificate in the file at `path`, or that it is unreadable or refused. It is read with one call of the tree.
 ///
 /// # Errors
 /// [`OutOfMemory`] if memory runs out; the tree may have been read by then.
@@ -58,7 +59,8 @@ fn read_certificate<T: Tree>(
     }
 }
 
-/// Whether a certificate holds for a text pattern in a mode. No certificate holds for a pattern of more than 4,000 nodes.
+/// Returns whether a certificate holds for a text pattern in a mode. No certificate holds for a pattern of more than 4,000
+/// nodes.
 ///
 /// # Errors
 /// [`OutOfMemory`] if memory runs out.
@@ -86,7 +88,7 @@ fn holds(
     }
 }
 
-/// Returns the line on whether a certificate with this verdict holds.
+/// Returns the line that `verify` writes: `holds` and the verdict if the certificate holds, otherwise `fails`.
 ///
 /// # Errors
 /// [`OutOfMemory`] if memory runs out.
@@ -96,7 +98,7 @@ fn held_line(
     verdict: &Verdict,
     max_pairs: u32,
 ) -> Result<Bytes, OutOfMemory>
-    ensures { IfOk result (λ text. text ≡ held_text held max_pairs verdict.now) }
+    ensures { IfOk result (λ text. text ≡ verify_text held max_pairs verdict.now) }
 {
     let mut text = Vec::new(alloc);
     if held {
@@ -109,7 +111,7 @@ fn held_line(
     Ok(Bytes::from_vec(text))
 }
 
-/// Plans `verify` for a parsed text pattern in a mode and a certificate.
+/// Returns the plan of `verify` for a parsed text pattern in a mode and a certificate.
 ///
 /// # Errors
 /// [`OutOfMemory`] if memory runs out.
@@ -135,7 +137,7 @@ fn certificate_plan(
     })
 }
 
-/// Plans `verify` for a parsed text pattern in a mode and the certificate file at this path.
+/// Returns the plan of `verify` for a parsed text pattern in a mode and the certificate file at this path.
 ///
 /// # Errors
 /// [`OutOfMemory`] if memory runs out; the tree may have been read by then.
@@ -167,8 +169,11 @@ fn file_plan<T: Tree>(
     }
 }
 
-/// Plans `verify` for a pattern argument in a mode and the certificate file at this path. At most `max_pairs` live pairs are
-/// examined. If the pattern is refused, the tree isn't asked.
+/// Returns the plan of `verify`. If the reader of patterns refuses the pattern, the plan is to refuse it, and the tree isn't
+/// asked. Otherwise the certificate file at the path `file` is read with one call of `tree`: if the call fails, the plan is to
+/// report this; if the bytes aren't a certificate, it is to refuse them; if the certificate holds for the pattern in `mode`,
+/// it is to write `holds` with its verdict; and otherwise it is to write `fails`, which is a finding. At most `max_pairs` live
+/// pairs are examined, and `max_pairs` must be from 1 to 1,000.
 ///
 /// # Errors
 /// [`OutOfMemory`] if memory runs out; the tree may have been read by then.

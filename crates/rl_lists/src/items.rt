@@ -1,4 +1,4 @@
-//! The list type.
+//! A growable list whose memory can run out.
 
 ghost use Rattle.std.specs.Prelude.{◌≡◌, List, [], ◌∷◌, ◌++◌, ◌==◌, length, IfOk, OnOk, OnErr};
 
@@ -24,7 +24,7 @@ impl<T> Model for Items<T> {
 }
 
 impl<T> Items<T> {
-    /// Creates an empty list. No memory is allocated until an item is added.
+    /// Returns an empty list. No memory is allocated until an item is added.
     pub fn new(alloc: Global) -> Items<T>
         ensures { result ≡ [] }
     {
@@ -33,14 +33,14 @@ impl<T> Items<T> {
         }
     }
 
-    /// Turns a vector into a list with the same items.
+    /// Returns a list with the items of a vector, in order. No memory is allocated.
     pub fn from_vec(items: Vec<T>) -> Items<T>
         ensures { result ≡ items.items }
     {
         Items { items }
     }
 
-    /// Returns the list's items as a vector.
+    /// Returns a vector with the items of the list, in order. No memory is allocated.
     pub fn into_vec(self) -> Vec<T>
         ensures { result.items ≡ self }
     {
@@ -54,14 +54,14 @@ impl<T> Items<T> {
         self.items.len()
     }
 
-    /// Whether the list is empty.
+    /// Returns whether the list has no items.
     pub fn is_empty(&self) -> bool
         ensures { result ≡ (length self.now == 0) }
     {
         self.items.is_empty()
     }
 
-    /// Returns the items as a slice.
+    /// Returns the items as a slice, in order.
     pub fn as_slice(&self) -> &[T]
         ensures { result.now ≡ self.now }
     {
@@ -70,10 +70,10 @@ impl<T> Items<T> {
 }
 
 impl<T: Copy> Items<T> {
-    /// Creates a list with a copy of the slice's items.
+    /// Returns a list with copies of the slice's items, in order.
     ///
     /// # Errors
-    /// [`OutOfMemory`] if there is no memory for the list.
+    /// [`OutOfMemory`] if there is not enough memory for the list.
     pub fn from_slice(alloc: Global, items: &[T]) -> Result<Items<T>, OutOfMemory>
         ensures { IfOk result (λ list. list ≡ items.now) }
     {
@@ -83,10 +83,10 @@ impl<T: Copy> Items<T> {
 }
 
 impl<T: Drop> Items<T> {
-    /// Appends an item.
+    /// Appends an item at the end.
     ///
     /// # Errors
-    /// [`OutOfMemory`] if the list can't grow. The list is unchanged then, and the item is dropped.
+    /// [`OutOfMemory`] if the list can't grow. The list is then unchanged, and the item is dropped.
     pub fn push(&mut self, item: T) -> Result<(), OutOfMemory>
         ensures pushed { OnOk result (self.new ≡ self.old ++ item ∷ []) }
         ensures unchanged { OnErr result (self.new ≡ self.old) }

@@ -44,22 +44,25 @@ impl<T: Drop> From<AllocFailed<T>> for OutOfMemory {
     }
 }
 
-/// A text: a list of codes of a universe.
+/// A text: a list of codes, which are Unicode code points or byte values.
 pub type Codes = Items<u32>;
 
-/// A word over numbered letters.
+/// A word: a list of letters, which are numbered from 0.
 pub type Word = Items<u32>;
 
-/// A path in a multigraph: the numbers of its moves, in order.
+/// A path in a multigraph, which may have several moves from one state on one letter: the number of each move, in order. A
+/// move's number counts from 0 among the moves of its state and letter.
 pub type Path = Items<u32>;
 
-/// A rank for each state.
+/// The rank of each state of a graph, at the state's index: the number of splits in a longest chain of splits that can be
+/// reached from the state, one after another. A split is a pair of different states `r` and `q` and a word that leads from `r`
+/// to `r`, from `r` to `q` and from `q` to `q`.
 pub type Ranks = Items<u32>;
 
-/// A byte offset for each code.
+/// For each code of a literal's value, the byte offset in the source, from 0, of the character or escape that gives it.
 pub type Places = Items<u32>;
 
-/// The members of a set of states, in ascending order.
+/// The states of a set, in ascending order.
 pub type Members = Items<u32>;
 
 /// A list of bytes.

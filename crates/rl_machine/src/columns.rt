@@ -1,4 +1,5 @@
-//! Columns of counted steps, computed from the end of a text to its start.
+//! Columns of counted steps, computed from the end of a text to its start. In a step, a matcher either tests a character or
+//! has come to an end of the tree; a step is a hit if a match ends with it. The end letter is read at the end of a text.
 
 ghost use Rattle.std.specs.Prelude.{◌≡◌, ℕ, ◌<◌, ◌≤◌, ◌-◌, [], ◌∷◌, List, Bool, ◌++◌, length, All, IfOk, slice_index_or, true, false, ◌==◌, if◌then◌else◌};
 ghost use Rattle.rl_prio.specs.Automaton.{Automaton, IsAutomaton, letters_count, accepting_state};
@@ -14,10 +15,13 @@ use std::alloc::Global;
 use std::marker::Model;
 
 /// The column of a list of letters: for each state of an automaton, the number of steps from that state on these letters and
-/// the end letter, and whether there is a hit. In contracts, a column is the list of these entries.
+/// the end letter, up to and including the first hit or in all if there is no hit, and whether there is a hit. In contracts, a
+/// column is the list of these entries.
 #[derive(Drop)]
 pub struct Columns {
+    /// The column.
     cells: Vec<Counted>,
+    /// Memory for the next column, of the same size.
     spare: Vec<Counted>,
 }
 
@@ -90,7 +94,7 @@ fn nothing_counted(alloc: Global, states: u32) -> Result<Vec<Counted>, OutOfMemo
 }
 
 impl Columns {
-    /// Creates the column of the empty list of letters.
+    /// Creates the column of the empty list of letters, which has only the steps on the end letter of the automaton `a`.
     ///
     /// # Errors
     /// [`OutOfMemory`] if there is not enough memory for two columns.
@@ -105,7 +109,8 @@ impl Columns {
         Ok(columns)
     }
 
-    /// Puts a letter in front of the letters of this column. It allocates no memory.
+    /// Puts a letter in front of the letters of this column. The column must be one of the automaton `a`, and `letter` one of
+    /// its letters, not the end letter. No memory is allocated.
     pub fn advance(&mut self, a: &Prio, letter: u32)
         requires made_for { length self.old ≡ a.now.states }
         requires letter_in { letter < letters_count a.now }
@@ -126,7 +131,9 @@ impl Columns {
         std::mem::swap(&mut self.cells, &mut self.spare);
     }
 
-    /// Returns the cost of the text that consists of the letters of this column, and whether the text is matched.
+    /// Returns the cost of a text that has the letters of this column, and whether the text is matched. The cost is one more
+    /// than the number of steps from the start up to and including the first hit, or than the number of all steps if there is
+    /// no hit; it is `Steps::Past` if it is 2^128 or more.
     pub fn answer(&self) -> Counted
         ensures { (a : Automaton) (letters : List ℕ) → StandFor a self.now letters → ShowsWalk result a letters }
     {

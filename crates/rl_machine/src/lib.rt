@@ -7,8 +7,8 @@
 //!
 //! # What is proved
 //!
-//! The number is the cost of the automaton's walk, and so the cost of the text for every tree for which the automaton
-//! stands.
+//! The number is the cost of the automaton's walk on the text. It is the cost of the text for each tree and ending for which
+//! the automaton stands.
 //!
 //! # Example
 //!

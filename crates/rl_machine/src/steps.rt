@@ -1,4 +1,5 @@
-//! Numbers of steps.
+//! Numbers of steps. A step is a test of a character or an end of the tree that a matcher tries. An end is a hit if a match
+//! may end there. Any other step is a miss.
 
 ghost use Rattle.std.specs.Prelude.{◌≡◌, ℕ, ◌+◌, ◌^◌, ◌<◌, [], ◌∷◌, true, false, List, Bool, ◌++◌};
 ghost use Rattle.rl_machine.specs.Counts.{Counts, Shows};
@@ -6,13 +7,14 @@ ghost use Rattle.rl_machine.specs.Counts.{Counts, Shows};
 /// A number of steps.
 #[derive(Clone, Copy, Debug, PartialEq, Eq)]
 pub enum Steps {
-    /// Exactly this many.
+    /// Exactly this number, at most 2^128 - 1.
     Exact(u128),
-    /// More than 2^128 - 1.
+    /// 2^128 or more.
     Past,
 }
 
-/// The number of steps that a match takes, and whether the text is matched.
+/// The number of steps in a list of steps, up to and including the first hit, and whether there is a hit. For a text, it is
+/// the cost, which counts one step more, and whether the text is matched.
 #[derive(Clone, Copy, Debug, PartialEq, Eq)]
 pub struct Counted {
     /// The number of steps up to and including the first hit, or of all steps if there is no hit.
@@ -22,7 +24,7 @@ pub struct Counted {
 }
 
 impl Steps {
-    /// Returns the sum. If a term or the sum is more than 2^128 - 1, the result is [`Steps::Past`].
+    /// Returns the sum of the two numbers, which is [`Steps::Past`] if it is 2^128 or more.
     pub(crate) fn plus(self, other: Steps) -> Steps
         ensures { (m n : ℕ) → Counts self m → Counts other n → Counts result (m + n) }
     {
@@ -37,7 +39,7 @@ impl Steps {
 }
 
 impl Counted {
-    /// Returns the count of no steps.
+    /// Returns the count of an empty list of steps.
     pub(crate) fn nothing() -> Counted
         ensures { Shows result [] }
     {
@@ -47,7 +49,7 @@ impl Counted {
         }
     }
 
-    /// Returns the count of one step that is a miss, followed by these steps.
+    /// Returns the count of a miss followed by the steps of `self`.
     pub(crate) fn after_miss(self) -> Counted
         ensures { (l : List Bool) → Shows self l → Shows result (false ∷ l) }
     {
@@ -57,9 +59,8 @@ impl Counted {
         }
     }
 
-    /// Returns the count of these steps followed by the steps in `after`. If these steps have a hit, the later ones aren't
+    /// Returns the count of the steps of `self` followed by those of `after`. If `self` has a hit, the later steps aren't
     /// taken.
-
     pub(crate) fn before(self, after: Counted) -> Counted
         ensures { (l r : List Bool) → Shows self l → Shows after r → Shows result (l ++ r) }
     {

@@ -1,4 +1,5 @@
-//! The cost of a text.
+//! The cost of a text, which is one more than the number of steps that a backtracking matcher takes on it, up to and including
+//! the first hit, or than the number of all steps if there is no hit. A hit is a step with which a match ends.
 
 ghost use Rattle.std.specs.Prelude.{ℕ, ◌<◌, List, All, IfOk};
 ghost use Rattle.rl_syntax.specs.declared.re.Ending.{Ending};
@@ -13,9 +14,11 @@ use rl_prio::Prio;
 use rl_ranges::{Codes, OutOfMemory};
 use std::alloc::Global;
 
-/// Returns the cost of a text, that is, one plus the number of steps of the automaton's walk up to and including the first
-/// hit, or plus the number of all steps if there is no hit; and whether there is a hit. Each step is a test that a
-/// backtracking matcher makes. The function reads the text once, from its end, by dynamic programming over two columns.
+/// Returns the cost of a text, and whether the walk of the automaton on it has a hit. The cost is one more than the number of
+/// steps of the walk up to and including the first hit, or one more than all its steps if there is no hit; it is `Steps::Past`
+/// if it is 2^128 or more. Each step is a test of a character or an end of the tree that a backtracking matcher tries. The
+/// text must have only codes of the automaton, which are the numbers below its number of codes. It is read once, from its end,
+/// by dynamic programming.
 ///
 /// # Errors
 /// [`OutOfMemory`] if there is not enough memory for two columns.

@@ -1,9 +1,8 @@
 -- Trees with groups that are joined one by one.
-use Rattle.std.proofs.Common.{◌≡◌, ℕ, zero, suc, Bool, List, [], ◌∷◌, ◌++◌, map, replicate, Option, refl, sym, ap, ap₂, ◌∙◌, append_assoc}
+use Rattle.std.proofs.Common.{◌≡◌, ℕ, zero, suc, List, [], ◌∷◌, ◌++◌, map, replicate, refl, sym, ap, ◌∙◌, append_assoc}
 use Rattle.rl_marks.specs.declared.tree.MarkTree.{MarkTree}
 use Rattle.rl_marks.specs.Marked.{Marked, both, either, marked_of}
-use Rattle.rl_marks.specs.Marking.{in_turn, one_of, tail_of}
-use Rattle.rl_marks.specs.internal.Parts.{held}
+use Rattle.rl_marks.specs.Marking.{in_turn, one_of}
 use Rattle.rl_marks.proofs.Following.{map-join}
 
 in_turn-two : (l : List Marked) (f w : Marked) → in_turn (l ++ f ∷ w ∷ []) ≡ in_turn (l ++ both f w ∷ [])
@@ -42,16 +41,3 @@ one_of-step l left first whole new trees e n h =
 replicate-last : (n : ℕ) (t : Marked) → replicate n t ++ t ∷ [] ≡ replicate (suc n) t
 replicate-last zero t = refl
 replicate-last (suc n) t = ap (λ l. t ∷ l) (replicate-last n t)
-
-pub copies-step : (n m : ℕ) (t : Marked) (copies : List MarkTree) (copy : MarkTree) → m ≡ suc n → map marked_of copies ≡ replicate n t → marked_of copy ≡ t
-    → map marked_of (copies ++ copy ∷ []) ≡ replicate m t
-copies-step n m t copies copy e h c =
-    map-join marked_of copies (copy ∷ [])
-    ∙ ap₂ (λ l x. l ++ x ∷ []) h c
-    ∙ replicate-last n t
-    ∙ ap (λ k. replicate k t) (sym e)
-
--- The copies, with what follows them.
-pub copies-tail : (least : ℕ) (most : Option ℕ) (greedy : Bool) (t : Marked) (copies : List MarkTree) (o : Option MarkTree)
-    → map marked_of copies ≡ replicate least t → held o ≡ tail_of greedy t least most → map marked_of copies ++ held o ≡ replicate least t ++ tail_of greedy t least most
-copies-tail least most greedy t copies o h e = ap₂ (λ a b. a ++ b) h e

@@ -9,7 +9,7 @@ use Rattle.rl_syntax.specs.Guards.{sets_named}
 use Rattle.rl_syntax.specs.Tree.{sets_in, guard_sets}
 use Rattle.rl_syntax.specs.Run.{one_more}
 use Rattle.rl_prio.specs.Letters.{all_sets}
-use Rattle.rl_prio.proofs.LikenessLemmas.{Finer, Finer-itself, Finer-onward, Finer-left, Finer-right, Finer-first, Finer-second, holds-like, set_of-alike}
+use Rattle.rl_prio.proofs.LikenessLemmas.{Finer, Finer-left, Finer-right, Finer-first, Finer-second, holds-like, set_of-alike}
 use Rattle.rl_prio.proofs.LikenessLemmas as Likeness
 use Rattle.rl_marks.specs.Marked.{Marked, empty, one, guard, both, either, many, further, mark, plain}
 use Rattle.rl_marks.specs.Hits.{MatchEnding, AtEnd, AtLastLine, Anywhere, Matcher}
@@ -34,10 +34,6 @@ SameKind-like sets None None h = tt
 SameKind-like sets None (Some d) h = absurd h
 SameKind-like sets (Some c) None h = absurd h
 SameKind-like sets (Some c) (Some d) h = h
-
-SameKind-itself : (sets : List (ℕ → Bool)) (o : Option ℕ) → SameKind sets o o
-SameKind-itself sets None = tt
-SameKind-itself sets (Some c) = alike-itself sets c
 
 SameKind-onward : (sets : List (ℕ → Bool)) (c d : ℕ) (o : Option ℕ) → alike sets c d ≡ true → SameKind sets (Some d) o → SameKind sets (Some c) o
 SameKind-onward sets c d None h k = absurd k

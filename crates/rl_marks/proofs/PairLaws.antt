@@ -11,7 +11,7 @@ use Rattle.rl_marks.specs.declared.threads.Origin.TheVariants.{EachPlace, TextSt
 use Rattle.rl_marks.specs.Marked.{Marked}
 use Rattle.rl_marks.specs.Finds.{GroupSpan, Found, finds}
 use Rattle.rl_marks.specs.Hits.{MatchEnding, AtEnd, AtLastLine, Anywhere, Matcher, may_end, first_hit, is_hit_from, match_at, SameHit}
-use Rattle.rl_marks.specs.internal.Caps.{Caps, no_caps, held_span, span_named, SameCaps}
+use Rattle.rl_marks.specs.internal.Caps.{Caps, no_caps, span_of_group, span_named, SameCaps}
 use Rattle.rl_marks.specs.internal.Walk.{Ended, kept}
 use Rattle.rl_marks.specs.internal.Threads.{Thread, thread, moved, halted, named, first_ended, walks}
 use Rattle.rl_marks.specs.internal.Seeking.{IsAsked, SameFrom}
@@ -295,7 +295,7 @@ same_hit : (x y : Option Found) → SameEnded (or_else (option_kept x) None) (or
 same_hit None None h = tt
 same_hit (Some x) (Some y) h = record {
   same_end = h.0;
-  same_groups = λ n. sym (group-caps n x.spans no_caps) ∙ ap (held_span n) h.1.same_held ∙ group-caps n y.spans no_caps;
+  same_groups = λ n. sym (group-caps n x.spans no_caps) ∙ ap (span_of_group n) h.1.same_held ∙ group-caps n y.spans no_caps;
   same_last = sym (last-caps x.spans no_caps) ∙ h.1.same_last ∙ last-caps y.spans no_caps;
 }
 same_hit None (Some y) h = absurd h

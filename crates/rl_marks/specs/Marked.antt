@@ -1,5 +1,5 @@
--- Trees with groups. They are the trees of `rl_syntax` with two more forms: the body of a capturing group, and the rounds of a
--- repeat that is counted.
+-- Trees with groups. They are the trees of `rl_syntax` with two more forms: `mark` is the body of a capturing group, and
+-- `further` joins the rounds of a counted repeat such as `{0,2}`. A code is a code point of a `str`, or a byte of a `bytes`.
 use Rattle.std.specs.Prelude.{◌≡◌, ℕ, zero, suc, ◌+◌, Bool, true, false, ◌&&◌, ◌||◌}
 use Rattle.rl_ranges.specs.Codes.{has}
 use Rattle.rl_syntax.specs.declared.anchors.Guard.{Guard}
@@ -9,26 +9,27 @@ use Rattle.rl_marks.specs.declared.tree.MarkTree.{MarkTree, Empty, One, Both', E
 
 -- A tree with groups.
 pub data Marked : Type 0 where
-  -- Nothing.
+  -- Matches the empty text.
   empty : Marked
-  -- One code of a set.
+  -- Matches one code of the set.
   one : (ℕ → Bool) → Marked
-  -- A test of the place.
+  -- Tests the position.
   guard : Guard → Marked
-  -- The one and then the other.
+  -- The first tree, then the second.
   both : Marked → Marked → Marked
-  -- The one or the other, the first tried first.
+  -- Either tree. The first one is tried first.
   either : Marked → Marked → Marked
-  -- Any number of times; the flag says that one more is tried before none.
+  -- The tree any number of times. If the flag is `true` (greedy), one more round is tried before stopping.
   many : Marked → Bool → Marked
-  -- The one, and then the other if the one took a code. A round of a counted repeat and those after it are joined so, since
-  -- CPython tries no round after one that took nothing. This shows in the groups: `(?:()|(a)){0,2}b` matches `ab` with the
-  -- empty group 1 behind the `a`, in the second round. With `both` it would be before the `a`, in the first.
+  -- The first tree, and then the second if the first took a code. It joins a round of a counted repeat and those after it,
+  -- since CPython tries no round after one that took no code. This shows in the groups: `(?:()|(a)){0,2}b` matches `ab` with
+  -- the empty group 1 after the `a`, in the second round. With `both` it would be before the `a`, in the first.
   further : Marked → Marked → Marked
-  -- The body of the capturing group with the number.
+  -- The body of the capturing group with this number.
   mark : ℕ → Marked → Marked
 
--- The tree that the program's value is.
+-- The tree with groups that contracts see in place of the program's `MarkTree`. Each form becomes the form of the same name,
+-- and a set of codes becomes the test of whether it holds a code.
 abbrev pub marked_of : MarkTree → Marked
 marked_of Empty = empty
 marked_of (One set) = one (has set)
@@ -39,7 +40,7 @@ marked_of (Many' p e greedy) = many (marked_of e) greedy
 marked_of (Further' p e q f) = further (marked_of e) (marked_of f)
 marked_of (Mark' n p e) = mark n (marked_of e)
 
--- The number of nodes.
+-- The number of nodes of the tree.
 abbrev pub nodes : Marked → ℕ
 nodes empty = 1
 nodes (one set) = 1
@@ -50,7 +51,7 @@ nodes (many e greedy) = suc (nodes e)
 nodes (further e f) = suc (nodes e + nodes f)
 nodes (mark n e) = suc (nodes e)
 
--- Whether no group has the number 0.
+-- Whether no group of the tree has the number 0.
 abbrev pub is_numbered : Marked → Bool
 is_numbered empty = true
 is_numbered (one set) = true
@@ -62,7 +63,7 @@ is_numbered (further e f) = is_numbered e && is_numbered f
 is_numbered (mark zero e) = false
 is_numbered (mark (suc n) e) = is_numbered e
 
--- The tree without its groups.
+-- The tree of `rl_syntax` that is left without the groups: `mark` becomes its body, and `further` becomes `both`.
 abbrev pub plain : Marked → Tree
 plain empty = Plain.empty
 plain (one set) = Plain.one set
@@ -73,7 +74,7 @@ plain (many e greedy) = Plain.many (plain e) greedy
 plain (further e f) = Plain.both (plain e) (plain f)
 plain (mark n e) = plain e
 
--- Whether the tree takes a code in any case.
+-- Whether the form of the tree shows that each match of it takes a code. It doesn't for `many`, which may take no round.
 abbrev pub takes_code : Marked → Bool
 takes_code empty = false
 takes_code (one set) = true
@@ -84,7 +85,8 @@ takes_code (many e greedy) = false
 takes_code (further e f) = takes_code e
 takes_code (mark n e) = takes_code e
 
--- Each round of a counted repeat takes a code in any case.
+-- Holds if the first tree of each `further` takes a code by `takes_code`. So each round of a counted repeat after which
+-- another may follow takes a code.
 abbrev pub IsStrict : Marked → Type 0
 IsStrict empty = Unit {0}
 IsStrict (one set) = Unit {0}

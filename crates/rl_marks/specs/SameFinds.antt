@@ -1,5 +1,8 @@
--- Same finds: what it means that two patterns find the same spans and groups, by how they are asked. How many groups they have isn't
--- compared: a group that a pattern doesn't have has no value in it.
+-- When two patterns find the same spans and groups, for each way of asking them (`How`): by `fullmatch` or `match` from each
+-- position of a text, or by one `search` from its start. The patterns may have different numbers of groups: a group that a
+-- pattern doesn't have has no value in it. A matcher is a tree with groups, and where its matches may end. Two matchers find
+-- the same from a position if neither has a match there, or both have matches with the same end, the same values of all
+-- groups, and the same group closed last.
 use Rattle.std.specs.Prelude.{◌≡◌, ℕ, ◌≤◌, Bool, false, List, length}
 use Rattle.rl_ranges.specs.declared.universe.Universe.{Universe}
 use Rattle.rl_ranges.specs.Text.{IsText}
@@ -12,50 +15,56 @@ use Rattle.rl_marks.specs.Searches.{search_from, SameSearch}
 use Rattle.rl_marks.specs.Marked.{marked_of}
 use Rattle.rl_marks.specs.declared.pattern.MarkedPattern.{MarkedPattern}
 
--- From each place of each text of the universe both find the same, whether the match may be empty or not.
+-- Holds if both matchers find the same from each position of each text of the universe, the end of the text included, both
+-- when the match may be empty and when it must not be.
 abbrev pub SameFinds : Universe → Matcher → Matcher → Type 0
 SameFinds u s t = (w : List ℕ) → IsText u w → (i : ℕ) → i ≤ length w → (advance : Bool) → SameHit (match_at s w advance i) (match_at t w advance i)
 
--- From the start of each text of the universe a search finds the same in both.
+-- Holds if a search from the start of each text of the universe finds the same with both matchers.
 abbrev pub SameFirstSearch : Universe → Matcher → Matcher → Type 0
 SameFirstSearch u s t = (w : List ℕ) → IsText u w → SameSearch (search_from s w false 0) (search_from t w false 0)
 
--- Where a match may end, except by `fullmatch`. A trailing `$` holds at the text's end and before a line feed there, `\Z` only at the
--- text's end.
+-- Where a match of a pattern with this trailing anchor may end, except by `fullmatch`: anywhere if there is none; for `$` at
+-- the end of the text or before a line feed that is its last code; for `\Z` only at the end of the text.
 abbrev pub ending_at : Trail → MatchEnding
 ending_at None = Anywhere
 ending_at Dollar = AtLastLine
 ending_at End = AtEnd
 
--- Where a match may end, by how it is asked: by `fullmatch` only at the text's end.
+-- Where a match of a pattern with this trailing anchor may end, by how it is asked. By `fullmatch` it is only the end of the
+-- text.
 abbrev pub ending_in : How → Trail → MatchEnding
 ending_in Fullmatch trailing = AtEnd
 ending_in Match trailing = ending_at trailing
 ending_in OneSearch trailing = ending_at trailing
 
--- The matcher of a pattern, by how it is asked.
+-- The matcher of a pattern, by how it is asked: its tree, and where its matches may end.
 abbrev pub matcher_in : How → MarkedPattern → Matcher
 matcher_in how p = record { tree = marked_of p.tree; ending = ending_in how p.trailing }
 
--- Two patterns over one universe find the same: by `fullmatch` from each place; by `match` from each place, and so by each search;
--- by one search from the start.
+-- Holds if the patterns `p` and `q` find the same in all texts of the universe of `p`; that of `q` isn't considered.
+-- `Fullmatch` compares fullmatches from each position, `Match` compares matches from each position, and so all searches, and
+-- `OneSearch` compares the search from the start of each text.
 abbrev pub FindAlike : How → MarkedPattern → MarkedPattern → Type 0
 FindAlike Fullmatch p q = SameFinds p.universe (matcher_in Fullmatch p) (matcher_in Fullmatch q)
 FindAlike Match p q = SameFinds p.universe (matcher_in Match p) (matcher_in Match q)
 FindAlike OneSearch p q = SameFirstSearch p.universe (matcher_in OneSearch p) (matcher_in OneSearch q)
 
--- On a text of the universe the matches from a place differ; the flag says that they may not be empty.
+-- Holds if `w` is a text of the universe and the matches of the two matchers from its position `i` differ. If `advance` is
+-- `true`, these matches must not be empty.
 pub record DifferFrom (u : Universe) (s t : Matcher) (w : List ℕ) (advance : Bool) (i : ℕ) : Type 0 where
   pub text : IsText u w
   pub within : i ≤ length w
   pub differ : SameHit (match_at s w advance i) (match_at t w advance i) → ⊥
 
--- On a text of the universe the searches from its start differ.
+-- Holds if `w` is a text of the universe and the searches of the two matchers from its start differ.
 pub record DifferInSearch (u : Universe) (s t : Matcher) (w : List ℕ) : Type 0 where
   pub text : IsText u w
   pub differ : SameSearch (search_from s w false 0) (search_from t w false 0) → ⊥
 
--- On the text, from the place on, two patterns over one universe find different matches.
+-- Holds if `w` is a text of the universe of `p`, and `p` and `q` find different matches in it from position `i`, either when
+-- empty matches are allowed or when they aren't. The universe of `q` isn't considered. For `OneSearch` the searches from the
+-- start of `w` are different, in which empty matches are allowed, and `i` is 0.
 abbrev pub FindDifferently : How → MarkedPattern → MarkedPattern → List ℕ → ℕ → Type 0
 FindDifferently Fullmatch p q w i = (advance : Bool) × DifferFrom p.universe (matcher_in Fullmatch p) (matcher_in Fullmatch q) w advance i
 FindDifferently Match p q w i = (advance : Bool) × DifferFrom p.universe (matcher_in Match p) (matcher_in Match q) w advance i

@@ -1,4 +1,4 @@
--- Definitions for the contracts of private functions, and of those of `rl_spans`. No public contract reaches them.
+-- Definitions for the contracts of private functions, here and in `rl_spans`. No public contract reaches them.
 pub mod Caps
 pub mod MarkItems
 pub mod Walk

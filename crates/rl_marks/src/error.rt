@@ -1,15 +1,15 @@
-//! Why a pattern has no tree with groups.
+//! The reasons why no tree with groups is made of a pattern.
 
 use rl_lists::OutOfMemory;
 
-/// Why a pattern has no tree with groups.
+/// The reason why no tree with groups is made of a pattern.
 #[derive(Clone, Copy, Debug, PartialEq, Eq)]
 pub enum MarkError {
     /// The tree would have more than [`MOST_NODES`](rl_syntax::MOST_NODES) nodes.
     TooLarge,
     /// The pattern has more than [`MOST_GROUPS`](crate::MOST_GROUPS) capturing groups.
     TooManyGroups,
-    /// Out of memory.
+    /// There was not enough memory.
     OutOfMemory,
 }
 

@@ -1,23 +1,23 @@
 //! Trees with groups, and what a backtracking matcher finds with them: where matches end, and the spans of their groups.
 //!
 //! [`MarkedPattern::of`] makes the tree with groups of a [`Pattern`](rl_syntax::Pattern), a [`MarkTree`]. It is the tree of
-//! `rl_syntax`, in which each capturing group is marked with its number; groups are numbered in the order in which they are
-//! opened. [`How`] names the calls by which two patterns are asked for what they find, and [`ending_of`] says where a match may
-//! end then. [`value_of`] is the value of a group. `rl_spans` decides whether two patterns find the same; the types of
-//! [`threads`] are for it.
+//! `rl_syntax`, in which each capturing group is marked with its number. Groups are numbered from 1, in the order of their
+//! opening parentheses. [`How`] names the calls by which two patterns are compared, and [`ending_of`] says where a match may
+//! end then. [`value_of`] returns the value of a group. `rl_spans` decides whether two patterns find the same. It uses the
+//! types of [`threads`].
 //!
 //! # What is proved
 //!
-//! The tree is the one that the definition gives. [`MarkedPattern::of`] answers one only if it has at most 4,000 nodes and the
-//! pattern at most 100 groups, and its error says that there are more only if there are. Above all this crate defines what it
-//! means that two patterns find the same: from each place, or by one search from the start of a text, the same matches with the
-//! same ends and the same groups. By the laws of [`laws`], a tree without its groups is the tree of `rl_syntax`, the ends of what
-//! is found are those of its run, and matchers that find the same from each place find the same in each search and each sequence
-//! of searches, as those of `finditer`.
+//! The tree is the one that the definition gives. [`MarkedPattern::of`] returns one only if it has at most 4,000 nodes and the
+//! pattern has at most 100 groups, and its errors say that there are more only if there are. Above all, this crate defines
+//! when two patterns find the same: the same matches with the same ends and the same groups, from each position or by one
+//! search from the start of a text. [`laws`] states three relations: a tree without its groups is the tree of `rl_syntax`;
+//! under a condition the ends of its finds are those of that tree's run; and matchers that find the same from each position
+//! find the same in each search and each sequence of searches, such as those of `finditer`.
 //!
-//! The module `thread_laws` has the theory of a check. A text is read by lists of threads, later threads in the state of an
-//! earlier one are dropped, and places are kept by names. A relation on pairs of such lists that is closed under the next code
-//! shows that two patterns find the same.
+//! The module `thread_laws` has the theory of a check. A text is read by lists of threads, in which a later thread in the
+//! state of an earlier one is dropped, and positions are represented by names. If a relation on pairs of such lists is closed
+//! under the next code, two patterns find the same.
 //!
 //! # Example
 //!
@@ -29,7 +29,7 @@
 //! ```
 //!
 //! Read `specs/Marked.antt`, `specs/Finds.antt`, `specs/Hits.antt`, `specs/Searches.antt` and `specs/SameFinds.antt` in this
-//! order, and `specs/Marking.antt` for how a pattern's groups are numbered.
+//! order, and `specs/Marking.antt` for how the groups of a pattern are numbered.
 #![tactic(auto)]
 
 pub mod asked;

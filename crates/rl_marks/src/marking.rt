@@ -1,4 +1,4 @@
-//! From a pattern to its tree with groups.
+//! Building the tree with groups of a pattern, in which each capturing group is marked with its number, from 1 on.
 
 ghost use Rattle.std.specs.Prelude.{◌≡◌, ◌≢◌, ◌+◌, ◌<◌, ◌≤◌, ◌∷◌, [], map, IfOk, IfErr};
 ghost use Rattle.rl_syntax.specs.PatTree.{pat_of, items_of, branches_of};
@@ -8,7 +8,7 @@ ghost use Rattle.rl_syntax.specs.Counting.{branch_tree};
 ghost use Rattle.rl_marks.specs.declared.error.MarkError.TheVariants as error;
 ghost use Rattle.rl_marks.specs.Marked.{Marked, marked_of};
 ghost use Rattle.rl_marks.specs.Marking.{in_turn, in_rounds, one_of, option_of, options, tail_of, times, groups_in, groups_in_items, groups_in_branches, marked, items_marked, branches_marked};
-ghost use Rattle.rl_marks.specs.internal.Parts.{held};
+ghost use Rattle.rl_marks.specs.internal.Parts.{marked_of_option};
 
 use crate::error::MarkError;
 use crate::limits::MOST_GROUPS;
@@ -17,21 +17,25 @@ use rl_lists::{Items, OutOfMemory};
 use rl_syntax::{AnchorKind, Branch, Guard, Pat};
 use std::alloc::Global;
 
-/// The tree of a part, and the number of the next group.
+/// The tree with groups of a part of a pattern.
 #[derive(Drop)]
 pub(crate) struct Part {
+    /// The tree.
     pub(crate) tree: MarkTree,
+    /// The number that the next group gets.
     pub(crate) next: u32,
 }
 
-/// The trees of parts, and the number of the next group.
+/// The trees with groups of several parts.
 #[derive(Drop)]
 struct Parts {
+    /// The trees, in the order of the parts.
     trees: Items<MarkTree>,
+    /// The number that the next group gets.
     next: u32,
 }
 
-/// The tree of a part of a pattern whose first group has the number.
+/// Returns the tree of a part of a pattern, whose first group gets this number, and the number that the group after it gets.
 #[cycle(marking)]
 pub(crate) fn mark_part(alloc: Global, part: &Pat, number: u32) -> Result<Part, MarkError>
     ensures tree { IfOk result (λ r. marked_of r.tree ≡ marked (pat_of part.now) number) }
@@ -95,7 +99,7 @@ pub(crate) fn mark_part(alloc: Global, part: &Pat, number: u32) -> Result<Part, 
     }
 }
 
-/// The tree of a capturing group with the number.
+/// Returns the tree of a capturing group with this number. Fails if the number exceeds the limit.
 #[cycle(marking)]
 fn mark_group(alloc: Global, body: &Pat, number: u32) -> Result<Part, MarkError>
     ensures tree { IfOk result (λ r. marked_of r.tree ≡ Marked.mark number (marked (pat_of body.now) (number + 1))) }
@@ -115,7 +119,7 @@ fn mark_group(alloc: Global, body: &Pat, number: u32) -> Result<Part, MarkError>
     })
 }
 
-/// The trees of items.
+/// Returns the trees of the items of a sequence, whose first group gets this number.
 #[cycle(marking)]
 fn mark_items(alloc: Global, items: &[Pat], number: u32) -> Result<Parts, MarkError>
     ensures trees { IfOk result (λ r. map marked_of r.trees ≡ items_marked (items_of (map pat_of items.now)) number) }
@@ -134,7 +138,7 @@ fn mark_items(alloc: Global, items: &[Pat], number: u32) -> Result<Parts, MarkEr
     Ok(Parts { trees, next })
 }
 
-/// The trees of branches.
+/// Returns the trees of the branches of a choice, whose first group gets this number.
 #[cycle(marking)]
 fn mark_branches(alloc: Global, branches: &[Branch], number: u32) -> Result<Parts, MarkError>
     ensures trees { IfOk result (λ r. map marked_of r.trees ≡ branches_marked (branches_of (map branch_tree branches.now)) number) }
@@ -153,7 +157,7 @@ fn mark_branches(alloc: Global, branches: &[Branch], number: u32) -> Result<Part
     Ok(Parts { trees, next })
 }
 
-/// The trees one after another.
+/// Returns the trees one after another. An empty list gives the empty tree.
 fn joined(alloc: Global, trees: Items<MarkTree>) -> Result<MarkTree, OutOfMemory>
     ensures { IfOk result (λ t. marked_of t ≡ in_turn (map marked_of trees)) }
 {
@@ -167,7 +171,7 @@ fn joined(alloc: Global, trees: Items<MarkTree>) -> Result<MarkTree, OutOfMemory
     Ok(whole)
 }
 
-/// One of the trees, the earlier ones tried first.
+/// Returns a choice between the trees, in which earlier ones are tried first. An empty list gives the empty tree.
 fn preferred(alloc: Global, trees: Items<MarkTree>) -> Result<MarkTree, OutOfMemory>
     ensures { IfOk result (λ t. marked_of t ≡ one_of (map marked_of trees)) }
 {
@@ -181,7 +185,7 @@ fn preferred(alloc: Global, trees: Items<MarkTree>) -> Result<MarkTree, OutOfMem
     Ok(whole)
 }
 
-/// The tree from `min` up to `max` times; without a `max` there is no bound.
+/// Returns the tree repeated `min` to `max` times. If `max` is `None`, there is no bound.
 fn repeated(
     alloc: Global,
     body: &MarkTree,
@@ -202,7 +206,8 @@ fn repeated(
     joined(alloc, copies)
 }
 
-/// What follows the least number of copies, if something does.
+/// Returns what follows the required copies of a repeat: a loop if there is no maximum, otherwise the optional rounds. It is
+/// `None` if there are no optional rounds.
 fn tail(
     alloc: Global,
     body: &MarkTree,
@@ -210,7 +215,7 @@ fn tail(
     max: Option<u32>,
     greedy: bool,
 ) -> Result<Option<MarkTree>, OutOfMemory>
-    ensures { IfOk result (λ o. held o ≡ tail_of greedy (marked_of body.now) min max) }
+    ensures { IfOk result (λ o. marked_of_option o ≡ tail_of greedy (marked_of body.now) min max) }
 {
     match max {
         None => {
@@ -222,14 +227,14 @@ fn tail(
     }
 }
 
-/// Up to `count` rounds, each of which is left out only with those after it. Without a round there is no tree.
+/// Returns up to `count` optional rounds, each of which contains those after it, or `None` if `count` is 0.
 fn rounds(
     alloc: Global,
     body: &MarkTree,
     count: u32,
     greedy: bool,
 ) -> Result<Option<MarkTree>, OutOfMemory>
-    ensures { IfOk result (λ o. held o ≡ options greedy (marked_of body.now) count) }
+    ensures { IfOk result (λ o. marked_of_option o ≡ options greedy (marked_of body.now) count) }
 {
     let mut rest = None;
     for _ in 0..count {
@@ -241,13 +246,13 @@ fn rounds(
     Ok(rest)
 }
 
-/// A round, and those after it, which are tried if the round took a code.
+/// Returns a round and those after it, which are tried only if the round took a code.
 fn with_rounds(
     alloc: Global,
     round: MarkTree,
     rest: Option<MarkTree>,
 ) -> Result<MarkTree, OutOfMemory>
-    ensures { IfOk result (λ t. marked_of t ≡ in_rounds (marked_of round) (held rest)) }
+    ensures { IfOk result (λ t. marked_of t ≡ in_rounds (marked_of round) (marked_of_option rest)) }
 {
     match rest {
         None => Ok(round),
@@ -255,7 +260,7 @@ fn with_rounds(
     }
 }
 
-/// The tree or nothing; a greedy one tries the tree first.
+/// Returns the optional tree. If `greedy` is `true`, the tree is tried before nothing, otherwise after it.
 fn optional(alloc: Global, tree: MarkTree, greedy: bool) -> Result<MarkTree, OutOfMemory>
     ensures { IfOk result (λ t. marked_of t ≡ option_of greedy (marked_of tree)) }
 {
@@ -266,7 +271,7 @@ fn optional(alloc: Global, tree: MarkTree, greedy: bool) -> Result<MarkTree, Out
     }
 }
 
-/// The guard of an anchor in a body.
+/// Returns the guard of an anchor in a body. A `$` without MULTILINE doesn't occur there.
 fn anchor_guard(kind: AnchorKind, multiline: bool) -> Guard
     ensures { result ≡ guard_of kind multiline }
 {
@@ -278,7 +283,7 @@ fn anchor_guard(kind: AnchorKind, multiline: bool) -> Guard
     }
 }
 
-/// The guard of a boundary.
+/// Returns the guard of a word boundary. `negated` says whether it is `\B`, and `ascii` whether words are ASCII words.
 fn boundary_guard(negated: bool, ascii: bool) -> Guard
     ensures { result ≡ guard_of_boundary negated ascii }
 {

@@ -22,7 +22,8 @@ pub struct MarkedPattern {
     pub trailing: Trail,
     /// The universe of the codes.
     pub universe: Universe,
-    /// How many groups the pattern has. Some of them may be in no copy of a repeat, and so not in the tree.
+    /// The number of capturing groups of the pattern. The body of a repeat counts once. A group in `{0}` counts, but isn't in
+    /// the tree.
     pub groups: u32,
     ghost judged: { IsMarked universe (marked_of tree) } by { IsMarked-prop universe (marked_of tree) },
 }
@@ -34,12 +35,13 @@ impl MarkedPattern {
     ghost use Rattle.rl_marks.specs.Marked.{marked_of, nodes};
     ghost use Rattle.rl_marks.specs.Marking.{groups_in, pattern_marked};
 
-    /// The pattern with its groups, numbered from 1 on in the order in which they are opened.
+    /// Returns the pattern with its groups, which are numbered from 1 in the order of their opening parentheses.
     ///
     /// # Errors
-    /// [`MarkError::TooLarge`] only if the tree has more than [`MOST_NODES`] nodes, and [`MarkError::TooManyGroups`] only if the
-    /// pattern has more than [`MOST_GROUPS`](crate::MOST_GROUPS) groups; a pattern that passes either limit gets an error in any
-    /// case. [`MarkError::OutOfMemory`] if there was no memory for the tree.
+    /// [`MarkError::TooLarge`] only if the tree has more than [`MOST_NODES`] nodes, and [`MarkError::TooManyGroups`] only if
+    /// the pattern has more than [`MOST_GROUPS`](crate::MOST_GROUPS) groups. A pattern that exceeds a limit always gives an
+    /// error. If it exceeds both, either error is possible. [`MarkError::OutOfMemory`] if there is not enough memory for the
+    /// tree.
     pub fn of(alloc: Global, p: &Pattern) -> Result<MarkedPattern, MarkError>
         ensures tree { IfOk result (λ m. marked_of m.tree ≡ pattern_marked p.now) }
         ensures trailing { IfOk result (λ m. m.trailing ≡ trail_of p.now) }
@@ -67,7 +69,7 @@ impl MarkedPattern {
     }
 }
 
-/// The tree behind a leading anchor, if there is one.
+/// Returns the tree after a test for the start of the text if `leading` is `true`, and otherwise the tree itself.
 fn led(alloc: Global, leading: bool, tree: MarkTree) -> Result<MarkTree, OutOfMemory>
     ensures { IfOk result (λ t. marked_of t ≡ led_tree leading (marked_of tree)) }
 {

@@ -1,4 +1,4 @@
-//! A search as a match: any codes first.
+//! A search as a match of a tree that takes codes first.
 
 ghost use Rattle.std.specs.Prelude.{◌≡◌, false, IfOk};
 ghost use Rattle.rl_syntax.specs.Modes.{is_code};
@@ -9,11 +9,12 @@ use rl_lists::OutOfMemory;
 use rl_syntax::{CodeSet, Universe};
 use std::alloc::Global;
 
-/// Any codes of the universe, as few as can be, as the group 0, and then the tree. What it finds from the start of a text is what
-/// a search finds there with the tree, and group 0 ends where the search's match begins.
+/// Returns the tree that first takes codes of the universe, as few as possible, as the group 0, and then matches `tree`. Its
+/// match from the start of a text of the universe has the same end and the same values of the groups of `tree` as a search
+/// with `tree` from there. The search's match begins where group 0 ends.
 ///
 /// # Errors
-/// [`OutOfMemory`] if there was no memory for a node; the tree is dropped then.
+/// [`OutOfMemory`] if there is not enough memory for the new nodes. The tree is dropped then.
 pub fn seeking(alloc: Global, universe: Universe, tree: MarkTree) -> Result<MarkTree, OutOfMemory>
     ensures { IfOk result (λ t. marked_of t
         ≡ Marked.both (Marked.mark 0 (Marked.many (Marked.one (is_code universe)) false)) (marked_of tree)) }
@@ -24,7 +25,7 @@ pub fn seeking(alloc: Global, universe: Universe, tree: MarkTree) -> Result<Mark
     MarkTree::both(alloc, front, tree)
 }
 
-/// The tree of each code of the universe.
+/// Returns the tree that matches one code of the universe.
 fn any_code(alloc: Global, universe: Universe) -> Result<MarkTree, OutOfMemory>
     ensures { IfOk result (λ t. marked_of t ≡ Marked.one (is_code universe)) }
 {

@@ -1,76 +1,79 @@
-//! Lists of threads, and pairs of them. `rl_spans` steps from pair to pair.
+//! Threads, and pairs of thread lists. A thread is a state of a tree, which is its start or a place whose test has just
+//! succeeded, with what is known of the groups. `rl_spans` steps from
+//! pair to pair. Within a pair, the positions in what is known of the groups are names: in each step they become one greater,
+//! and the current position gets the name 0.
 
 use crate::spans::GroupSpan;
 use rl_lists::Items;
 use rl_syntax::Guard;
 
-/// From where matches are asked for.
+/// The positions from which matches are asked for.
 #[derive(Clone, Copy, Debug, PartialEq, Eq)]
 pub enum Origin {
-    /// From each place of each text.
+    /// Each position of each text.
     EachPlace,
-    /// From the start of each text.
+    /// The start of each text.
     TextStart,
 }
 
 /// What is known of the groups on a way through a tree.
 #[derive(Drop)]
 pub struct Caps {
-    /// Where the groups that aren't closed yet were opened, the innermost one in front.
+    /// The positions at which the groups that are still open were opened, the innermost one first.
     pub opens: Items<u32>,
-    /// The last span of each group that was closed, by rising numbers.
+    /// The last span of each group that was closed, by ascending numbers.
     pub held: Items<GroupSpan>,
-    /// The number of the group that was closed last.
+    /// The number of the group that was closed last, or `None` if no group was closed.
     pub last: Option<u32>,
 }
 
-/// What is done on the way to a test or the end.
+/// What an item of a tree does at a position before its test of a place, or before the end of the tree.
 #[derive(Clone, Copy)]
 pub enum Act {
-    /// A test of the place.
+    /// Tests the position.
     Check(Guard),
-    /// A group is opened.
+    /// Opens a group.
     OpenGroup,
-    /// The innermost open group is closed, which has the number.
+    /// Closes the innermost open group, which has this number.
     CloseGroup(u32),
 }
 
-/// What is tried: after acts the test of a place, or the end.
+/// What a matcher tries: acts in order, and then the test of a place or the end of the tree.
 #[derive(Drop)]
 pub enum MarkItem {
-    /// The test of a place.
+    /// The acts, and the number of the place. The places of a tree are its sets, numbered from 0, from left to right.
     Test(Items<Act>, u32),
-    /// The end.
+    /// The acts before the end of the tree.
     Pass(Items<Act>),
 }
 
-/// What an item has come to at a place of the text.
+/// What an item whose guards hold comes to at a position of the text.
 #[derive(Drop)]
 pub enum Try {
-    /// The test of a place.
+    /// The test of the place with this number, and what is known of the groups before it.
     Goes(u32, Caps),
-    /// The end.
+    /// The end of the tree, and what is known of the groups there.
     Stops(Caps),
 }
 
 /// A state with what is known of the groups.
 #[derive(Drop)]
 pub struct Thread {
-    /// 0 at the start, and one more than the number of the place whose test has just succeeded.
+    /// The state: 0 at the start, and otherwise one more than the number of the place whose test has just succeeded.
     pub state: u32,
     /// What is known of the groups.
     pub caps: Caps,
 }
 
-/// The threads of two matchers that have read the same codes.
+/// The thread lists of two matchers that have read the same codes.
 #[derive(Drop)]
 pub struct ThreadPair {
-    /// The threads of the first one.
+    /// The threads of the first matcher, in order.
     pub left: Items<Thread>,
-    /// The threads of the second one.
+    /// The threads of the second matcher, in order.
     pub right: Items<Thread>,
-    /// Whether both found the same so far.
+    /// Whether both matchers have found the same so far.
     pub agree: bool,
-    /// The code before, if there is one.
+    /// The code before, or `None` at the start of the text.
     pub before: Option<u32>,
 }

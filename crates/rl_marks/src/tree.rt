@@ -8,32 +8,32 @@ use rl_lists::OutOfMemory;
 use rl_syntax::{CodeSet, Guard};
 use std::alloc::Global;
 
-/// A tree of the operators of Python's `re`, with groups.
+/// A tree of the operators of Python's `re`, with capturing groups.
 #[derive(Drop)]
 pub enum MarkTree {
-    /// Nothing, which spans no code.
+    /// Matches the empty text.
     Empty,
-    /// One code of a set.
+    /// Matches one code of the set.
     One(CodeSet),
-    /// A test of the place.
+    /// Tests the position.
     Guard(Guard),
-    /// The one and then the other.
+    /// The first tree, then the second.
     Both(Box<MarkTree>, Box<MarkTree>),
-    /// The one or the other, the first one tried first.
+    /// Either tree. The first one is tried first.
     Either(Box<MarkTree>, Box<MarkTree>),
-    /// Any number of times; if the flag is true, one more is tried before none.
+    /// The tree any number of times. If the flag is `true` (greedy), one more round is tried before stopping.
     Many(Box<MarkTree>, bool),
-    /// The one, and then the other if the one took a code.
+    /// The first tree and then, if it took a code, the second. It joins a round of a counted repeat and the rounds after it.
     Further(Box<MarkTree>, Box<MarkTree>),
-    /// The body of the group with the number.
+    /// The body of the capturing group with this number.
     Mark(u32, Box<MarkTree>),
 }
 
 impl MarkTree {
-    /// The one tree and then the other.
+    /// Returns the tree that matches `first` and then `second`.
     ///
     /// # Errors
-    /// [`OutOfMemory`] if there was no memory for a node; both trees are dropped then.
+    /// [`OutOfMemory`] if there is not enough memory for the nodes. Both trees are dropped then.
     pub fn both(alloc: Global, first: MarkTree, second: MarkTree) -> Result<MarkTree, OutOfMemory>
         ensures { IfOk result (λ tree. marked_of tree ≡ Marked.both (marked_of first) (marked_of second)) }
     {
@@ -41,10 +41,10 @@ impl MarkTree {
         Ok(MarkTree::Both(first, second))
     }
 
-    /// The one tree or the other, the first one tried first.
+    /// Returns the tree that matches either tree and tries `first` first.
     ///
     /// # Errors
-    /// [`OutOfMemory`] if there was no memory for a node; both trees are dropped then.
+    /// [`OutOfMemory`] if there is not enough memory for the nodes. Both trees are dropped then.
     pub fn either(alloc: Global, first: MarkTree, second: MarkTree) -> Result<MarkTree, OutOfMemory>
         ensures { IfOk result (λ tree. marked_of tree ≡ Marked.either (marked_of first) (marked_of second)) }
     {
@@ -52,10 +52,10 @@ impl MarkTree {
         Ok(MarkTree::Either(first, second))
     }
 
-    /// The one tree, and then the other if the one took a code.
+    /// Returns the tree that matches `first` and then, if that took a code, `second`.
     ///
     /// # Errors
-    /// [`OutOfMemory`] if there was no memory for a node; both trees are dropped then.
+    /// [`OutOfMemory`] if there is not enough memory for the nodes. Both trees are dropped then.
     pub fn further(
         alloc: Global,
         first: MarkTree,
@@ -67,7 +67,7 @@ impl MarkTree {
         Ok(MarkTree::Further(first, second))
     }
 
-    /// Both trees, each in a box.
+    /// Returns both trees, each in a box. If there is not enough memory, both are dropped.
     fn boxed(
         alloc: Global,
         first: MarkTree,
@@ -86,10 +86,11 @@ impl MarkTree {
         Ok((first, second))
     }
 
-    /// The tree any number of times. A greedy one tries one more before none.
+    /// Returns the tree that matches `body` any number of times. If `greedy` is `true`, it tries one more round before
+    /// stopping.
     ///
     /// # Errors
-    /// [`OutOfMemory`] if there was no memory for a node; the tree is dropped then.
+    /// [`OutOfMemory`] if there is not enough memory for the node. The body is dropped then.
     pub fn many(alloc: Global, body: MarkTree, greedy: bool) -> Result<MarkTree, OutOfMemory>
         ensures { IfOk result (λ tree. marked_of tree ≡ Marked.many (marked_of body) greedy) }
     {
@@ -97,10 +98,10 @@ impl MarkTree {
         Ok(MarkTree::Many(body, greedy))
     }
 
-    /// The tree as the body of the group with the number.
+    /// Returns the tree with `body` as the body of the capturing group with this number.
     ///
     /// # Errors
-    /// [`OutOfMemory`] if there was no memory for a node; the tree is dropped then.
+    /// [`OutOfMemory`] if there is not enough memory for the node. The body is dropped then.
     pub fn mark(alloc: Global, number: u32, body: MarkTree) -> Result<MarkTree, OutOfMemory>
         ensures { IfOk result (λ tree. marked_of tree ≡ Marked.mark number (marked_of body)) }
     {
@@ -108,7 +109,7 @@ impl MarkTree {
         Ok(MarkTree::Mark(number, body))
     }
 
-    /// The number of nodes, or 2^64 - 1 if there are more.
+    /// Returns the number of nodes, or 2^64 - 1 if there are more.
     pub fn nodes(&self) -> u64
         ensures { result ≡ capped (nodes (marked_of self.now)) }
     {
@@ -124,10 +125,10 @@ impl MarkTree {
         }
     }
 
-    /// A copy.
+    /// Returns a copy of the tree.
     ///
     /// # Errors
-    /// [`OutOfMemory`] if there was no memory for a node.
+    /// [`OutOfMemory`] if there is not enough memory for the copy.
     pub fn copy(&self, alloc: Global) -> Result<MarkTree, OutOfMemory>
         ensures { IfOk result (λ tree. marked_of tree ≡ marked_of self.now) }
     {
@@ -156,7 +157,7 @@ impl MarkTree {
     }
 }
 
-/// The tree in a box.
+/// Returns the tree in a box. If there is not enough memory, the tree is dropped.
 fn in_box(alloc: Global, tree: MarkTree) -> Result<Box<MarkTree>, OutOfMemory>
     ensures { IfOk result (λ b. b.value ≡ tree) }
 {

@@ -1,11 +1,10 @@
 -- Columns of path counts, letter by letter from the end of a word.
-use Rattle.std.proofs.Common.{◌≡◌, ◌∙◌, ℕ, zero, suc, ◌+◌, ◌<◌, ◌≤◌, ◌⊎◌, inl, inr, min, eqb, List, [], ◌∷◌, ◌++◌, length, get_or, take, drop, All, refl, sym, ap, ap₂, arith}
+use Rattle.std.proofs.Common.{◌≡◌, ◌∙◌, ℕ, zero, suc, ◌+◌, ◌<◌, ◌≤◌, ◌⊎◌, inl, inr, min, List, [], ◌∷◌, ◌++◌, length, get_or, take, drop, All, refl, sym, ap, ap₂, arith}
 use Rattle.std.proofs.lemmas.Bool.{cases_lt}
-use Rattle.std.proofs.lemmas.List.{take_more, take_all, length_push, get_or_push, get_or_append_left, drop_more}
+use Rattle.std.proofs.lemmas.List.{take_more, length_push, get_or_push, get_or_append_left, drop_more}
 use Rattle.rl_graph.specs.Graph.{Graph, edges_of, IsWhole}
-use Rattle.rl_graph.specs.Paths.{Has, total, one, paths}
+use Rattle.rl_graph.specs.Paths.{Has, total, paths}
 use Rattle.rl_graph.proofs.Sums.{total-append}
-use Rattle.rl_graph.proofs.PathLaws.{one-le}
 use Rattle.rl_numbers.specs.Columns.{IsColumn}
 
 capped : (a b s : ℕ) → s ≡ min 2 a → min (s + b) 2 ≡ min 2 (a + b)
@@ -15,9 +14,6 @@ pub sum-more : (f : ℕ → ℕ) (row : List ℕ) (i s : ℕ) → i < length row
 sum-more f row i s lt e =
     let more : total f (take (i + 1) row) ≡ total f (take i row) + f (get_or row i 0) = omega (arith, ap (total f) (take_more row i 0 lt), total-append f (take i row) (get_or row i 0 ∷ [])) in
     capped (total f (take i row)) (f (get_or row i 0)) s e ∙ ap (min 2) (sym more)
-
-pub sum-all : (f : ℕ → ℕ) (row : List ℕ) (i s : ℕ) → length row ≤ i → s ≡ min 2 (total f (take i row)) → s ≡ min 2 (total f row)
-sum-all f row i s past e = e ∙ ap (λ (r : List ℕ). min 2 (total f r)) (take_all i row past)
 
 -- A list that was put together item by item.
 pub each-push : (f : ℕ → ℕ) (old new : List ℕ) (k x : ℕ) → length old ≡ k → new ≡ old ++ x ∷ [] → x ≡ f k → ((q : ℕ) → q < k → get_or old q 0 ≡ f q) → (length new ≡ k + 1) × ((q : ℕ) → q < k + 1 → get_or new q 0 ≡ f q)
@@ -38,12 +34,6 @@ total-capped f g (m ∷ row) h = capped2 (f m) (g m) (total f row) (total g row)
   where
     capped2 : (a b c d : ℕ) → a ≡ min 2 b → min 2 c ≡ min 2 d → min 2 (a + c) ≡ min 2 (b + d)
     capped2 a b c d e k = omega arith
-
-pub column-start : (next : ℕ → ℕ → List ℕ) (n to k : ℕ) (column : List ℕ) → n ≤ k → length column ≡ k → k ≤ n → ((q : ℕ) → q < k → get_or column q 0 ≡ min 2 (one (eqb q to))) → IsColumn next n to [] column
-column-start next n to k column past e le all = record { size = omega arith; right = λ q lt. all q (omega arith) }
-
-pub start-value : (q to x : ℕ) → x ≡ one (eqb q to) → x ≡ min 2 (one (eqb q to))
-start-value q to x e = omega (arith, e, one-le (eqb q to))
 
 pub column-before : (g : Graph) (letter k : ℕ) (column sums : List ℕ) → IsWhole g → g.states ≤ k → k ≤ g.states → length sums ≡ k → ((q : ℕ) → q < k → get_or sums q 0 ≡ min 2 (total (λ m. get_or column m 0) (edges_of g q letter)))
     → (to : ℕ) (word : List ℕ) → IsColumn (edges_of g) g.states to word column → IsColumn (edges_of g) g.states to (letter ∷ word) sums

@@ -12,7 +12,7 @@ use Rattle.rl_graph.proofs.GraphLaws.{bounded-whole}
 use Rattle.rl_numbers.specs.declared.double.Double.{Double}
 use Rattle.rl_numbers.specs.declared.doubling.Pair.{Pair}
 use Rattle.rl_numbers.specs.contracts.doubling.PairPartialEq.TheImpl as pair
-use Rattle.rl_numbers.specs.Doubled.{double_at, is_double, double_number, OnceEach, IsInside, AreDoubles, EqualsHeld, number_in, IsIndex}
+use Rattle.rl_numbers.specs.Doubled.{double_at, is_double, double_number, OnceEach, IsInside, AreDoubles, HasEqualDoubles, number_in, IsIndex}
 use Rattle.rl_numbers.specs.internal.DoubledFalls.{FirstsFall, StepsFall, ApartsFall, LeavesFall, HoldsIn}
 use Rattle.rl_numbers.proofs.StepLaws.{some-number, is-some, its-number}
 
@@ -142,16 +142,16 @@ each-part P Q [] f h = tt
 each-part P Q (x ∷ l) f h = (f x h.0, each-part P Q l f h.1)
 
 pub all-decide : (g : Graph) (at : ℕ → ℕ → Option ℕ) (l : List Double) → ((x y : ℕ) → at x y ≡ double_at l x y) → OnceEach l
-    → (Each (HoldsIn (edges_of g) g.states at) l × EqualsHeld g.states at) ↔ AreDoubles (edges_of g) g.states l
+    → (Each (HoldsIn (edges_of g) g.states at) l × HasEqualDoubles g.states at) ↔ AreDoubles (edges_of g) g.states l
 all-decide g at l same once = (there, back)
   where
     is : at ≡ double_at l
     is = fun_ext (λ x. fun_ext (λ y. same x y))
 
-    there : Each (HoldsIn (edges_of g) g.states at) l × EqualsHeld g.states at → AreDoubles (edges_of g) g.states l
-    there h = made (subst (λ (f : ℕ → ℕ → Option ℕ). Each (HoldsIn (edges_of g) g.states f) l × EqualsHeld g.states f) is h)
+    there : Each (HoldsIn (edges_of g) g.states at) l × HasEqualDoubles g.states at → AreDoubles (edges_of g) g.states l
+    there h = made (subst (λ (f : ℕ → ℕ → Option ℕ). Each (HoldsIn (edges_of g) g.states f) l × HasEqualDoubles g.states f) is h)
       where
-        made : Each (HoldsIn (edges_of g) g.states (double_at l)) l × EqualsHeld g.states (double_at l) → AreDoubles (edges_of g) g.states l
+        made : Each (HoldsIn (edges_of g) g.states (double_at l)) l × HasEqualDoubles g.states (double_at l) → AreDoubles (edges_of g) g.states l
         made k = record {
           once = once;
           inside = each-part (HoldsIn (edges_of g) g.states (double_at l)) (IsInside g.states) l (λ t x. x.0) k.0;
@@ -171,7 +171,7 @@ all-decide g at l same once = (there, back)
                 let k = holds.1 l2 x (subst (λ (s : ℕ). Has x (edges_of g s l2)) (sym t.2) hx) y (subst (λ (s : ℕ). Has y (edges_of g s l2)) (sym t.3) hy) in
                 (k.0, k.1, omega (arith, k.2, t.4, some.2))
 
-            leave : Each (HoldsIn (edges_of g) g.states (double_at l)) l → EqualsHeld g.states (double_at l) → (r l2 i j x y : ℕ) → r < g.states → i ≢ j → slice_get (edges_of g r l2) i ≡ Some x → slice_get (edges_of g r l2) j ≡ Some y → (k : ℕ) × (double_at l x y ≡ Some k) × (k < double_number l r r)
+            leave : Each (HoldsIn (edges_of g) g.states (double_at l)) l → HasEqualDoubles g.states (double_at l) → (r l2 i j x y : ℕ) → r < g.states → i ≢ j → slice_get (edges_of g r l2) i ≡ Some x → slice_get (edges_of g r l2) j ≡ Some y → (k : ℕ) × (double_at l x y ≡ Some k) × (k < double_number l r r)
             leave each equal r l2 i j x y lt ne ei ej =
                 let some = some-number (double_at l r r) (equal r lt) in
                 let t = at-there l r r some.0 some.1 in
@@ -179,9 +179,9 @@ all-decide g at l same once = (there, back)
                 let k = holds.2 (t.2 ∙ sym t.3) l2 i x (subst (λ (s : ℕ). slice_get (edges_of g s l2) i ≡ Some x) (sym t.2) ei) j y ne (subst (λ (s : ℕ). slice_get (edges_of g s l2) j ≡ Some y) (sym t.2) ej) in
                 (k.0, k.1, omega (arith, k.2, t.4, some.2))
 
-    back : AreDoubles (edges_of g) g.states l → Each (HoldsIn (edges_of g) g.states at) l × EqualsHeld g.states at
+    back : AreDoubles (edges_of g) g.states l → Each (HoldsIn (edges_of g) g.states at) l × HasEqualDoubles g.states at
     back are =
-        subst (λ (f : ℕ → ℕ → Option ℕ). Each (HoldsIn (edges_of g) g.states f) l × EqualsHeld g.states f) (sym is)
+        subst (λ (f : ℕ → ℕ → Option ℕ). Each (HoldsIn (edges_of g) g.states f) l × HasEqualDoubles g.states f) (sym is)
         (each-has (HoldsIn (edges_of g) g.states (double_at l)) l (λ t i. (Each-has (IsInside g.states) t l are.inside i, steps t i, leaves t i)), are.numbers.equal)
       where
         steps : (t : Double) → Has t l → StepsFall (edges_of g) (double_at l) t

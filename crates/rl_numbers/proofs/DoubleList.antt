@@ -112,10 +112,6 @@ module _ (next : ℕ → ℕ → List ℕ) (n k : ℕ) (starts keys : List ℕ) 
           let m = has-map (double_of parts n) d keys h in
           subst (IsInside n) (sym m.2) (key-in m.0 m.1)
 
--- The diagonal, as it grows.
-pub diagonal-none : (n : ℕ) → IsDiagonalUpTo n 0 []
-diagonal-none n = record { sound = λ s h. absurd h; whole = λ r lt. absurd (omega (arith, lt)) }
-
 pub diagonal-push : (n r x : ℕ) (old new : List ℕ) → r < n → x ≡ r * n + r → new ≡ old ++ x ∷ [] → IsDiagonalUpTo n r old → IsDiagonalUpTo n (r + 1) new
 diagonal-push n r x old new rin e more so = subst (IsDiagonalUpTo n (r + 1)) (sym more) (record { sound = sound; whole = whole })
   where
@@ -134,9 +130,6 @@ diagonal-push n r x old new rin e more so = subst (IsDiagonalUpTo n (r + 1)) (sy
         by (inr a) =
             let same : r ≡ q = omega (arith, a, lt) in
             subst (λ (z : ℕ). Has z (old ++ x ∷ [])) (e ∙ ap (λ (z : ℕ). z * n + z) same) (Has-last x old)
-
-pub diagonal-end : (n k : ℕ) (l : List ℕ) → n ≤ k → IsDiagonalUpTo n k l → IsDiagonalUpTo n n l
-diagonal-end n k l past so = record { sound = so.sound; whole = λ r lt. so.whole r (omega (arith, lt, past)) }
 
 pub doubles-more : (parts : PartTable) (n i : ℕ) (keys : List ℕ) (x : ℕ) (d : Double) (old new : List Double) → i < length keys → x ≡ get_or keys i 0
     → d ≡ double_of parts n x → new ≡ old ++ d ∷ [] → old ≡ doubles_in parts n (take i keys) → new ≡ doubles_in parts n (take (i + 1) keys)

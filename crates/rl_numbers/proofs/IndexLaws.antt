@@ -1,7 +1,7 @@
 -- An index of triples, one triple after another.
-use Rattle.std.proofs.Common.{◌≡◌, ◌∙◌, ℕ, ◌+◌, ◌<◌, ◌≤◌, inl, inr, Bool, true, false, cond, ◌&&◌, nat_eq, eqb-true, eq-eqb, List, [], ◌∷◌, ◌++◌, length, get_or, take, drop, Option, Some, None, is_some, refl, sym, ap, subst}
+use Rattle.std.proofs.Common.{◌≡◌, ◌∙◌, ℕ, ◌+◌, ◌<◌, inl, inr, Bool, true, false, cond, ◌&&◌, nat_eq, eqb-true, eq-eqb, List, [], ◌∷◌, ◌++◌, length, get_or, take, drop, Option, Some, None, is_some, refl, sym, ap, subst}
 use Rattle.std.proofs.lemmas.Bool.{and_parts, and_from}
-use Rattle.std.proofs.lemmas.List.{take_more, take_all, drop_more, take-append-drop}
+use Rattle.std.proofs.lemmas.List.{take_more, drop_more, take-append-drop}
 use Rattle.std.specs.HashMap.{get}
 use Rattle.indexmap.specs.IndexMap.{IndexMap}
 use Rattle.rl_graph.specs.Paths.{Has}
@@ -84,9 +84,6 @@ at-push (u ∷ l) t p q r none = by (is_at u t.p t.q t.r) refl none (at-push l t
 front : (l : List Triple) (i : ℕ) (t : Triple) → i < length l → t ≡ get_or l i no_triple → take (i + 1) l ≡ take i l ++ t ∷ []
 front l i t lt e = take_more l i no_triple lt ∙ ap (λ (u : Triple). take i l ++ u ∷ []) (sym e)
 
-pub index-none : {S : Type 0} (m : IndexMap Key ℕ S) (l : List Triple) → m.entries ≡ [] → IsIndex (take 0 l) m
-index-none m l e p q r = rw e refl
-
 module _ {S : Type 0} (m n : IndexMap Key ℕ S) (l : List Triple) (i : ℕ) (t : Triple) (lt : i < length l) (is : t ≡ get_or l i no_triple) where
   pub index-more : (k : Key) → k.p ≡ t.p → k.q ≡ t.q → k.r ≡ t.r → number_in m k.p k.q k.r ≡ None → IsIndex (take i l) m
       → ((q : Key) → get key.eq-value.it n q ≡ cond (key.eq-value.it k q) (Some t.number) (get key.eq-value.it m q)) → IsIndex (take (i + 1) l) n
@@ -123,12 +120,6 @@ module _ {S : Type 0} (m n : IndexMap Key ℕ S) (l : List Triple) (i : ℕ) (t 
           last [] ys = inl refl
           last (z ∷ xs) ys = inr (last xs ys)
       pairs-split (z ∷ xs) ys x p (inr h) = pairs-split xs ys x p.1 h
-
-pub index-all : {S : Type 0} (m : IndexMap Key ℕ S) (l : List Triple) (i : ℕ) → length l ≤ i → IsIndex (take i l) m → IsIndex l m
-index-all m l i past index p q r = index p q r ∙ ap (λ (x : List Triple). triple_at x p q r) (take_all i l past)
-
-pub once-all : (l : List Triple) (i : ℕ) → length l ≤ i → OnceEach (take i l) → OnceEach l
-once-all l i past once = subst OnceEach (take_all i l past) once
 
 pub none_of : (o : Option ℕ) → is_some o ≡ false → o ≡ None
 none_of None h = refl

@@ -6,7 +6,7 @@ use Rattle.rl_graph.specs.Paths.{Has}
 use Rattle.rl_graph.specs.Graph.{Graph, edges_of, IsBare, IsAdded}
 use Rattle.rl_graph.specs.Parts.{PartTable, number_of}
 use Rattle.rl_graph.proofs.Sums.{Has-last, at-has, at-short, at-get_or}
-use Rattle.rl_kernel.proofs.InnerLaws.{move-state, move-letter, added-row, row-added}
+use Rattle.rl_kernel.proofs.InnerLaws.{move-state, added-row, row-added}
 use Rattle.rl_numbers.specs.internal.Inner.{IsKept, IsInner, Before, IsInnerUpTo}
 
 added-short : (h k : Graph) (s c t q l : ℕ) → IsAdded h k s c t → length (edges_of h s c) < 65535 → length (edges_of h q l) < 65536 → length (edges_of k q l) < 65536
@@ -77,23 +77,6 @@ inner-row g p s c end h long i row = inner-full g p s c h here i
         let a = at-has m (edges_of g s c) kept.0 in
         let e = at-get_or (edges_of g s c) a.0 m 0 a.1 in
         subst (λ (x : ℕ). Has x (edges_of h s c)) e (row a.0 (omega (arith, at-short (edges_of g s c) a.0 m a.1)) (ap (number_of p) e ∙ kept.1))
-
-pub inner-state : (g : Graph) (p : PartTable) (s c : ℕ) (h : Graph) → g.letters ≤ c → IsInnerUpTo g p s c h → IsInnerUpTo g p (s + 1) 0 h
-inner-state g p s c h long i = record {
-  same_states = i.same_states;
-  same_letters = i.same_letters;
-  kept = i.kept;
-  all = λ q l m before kept. by q l m before kept;
-  few = i.few;
-}
-  where
-    lower : (q l m : ℕ) → q < s + 1 → IsKept g p q l m → (q < s) ⊎ (s ≤ q) → Has m (edges_of h q l)
-    lower q l m b kept (inl d) = i.all q l m (inl d) kept
-    lower q l m b kept (inr d) = i.all q l m (inr (omega arith, omega (arith, move-letter g q l m kept.0))) kept
-
-    by : (q l m : ℕ) → Before (s + 1) 0 q l → IsKept g p q l m → Has m (edges_of h q l)
-    by q l m (inl b) kept = lower q l m b kept (cases_lt q s)
-    by q l m (inr b) kept = absurd (omega (arith, b.1))
 
 pub inner-bare : (g : Graph) (p : PartTable) (h : Graph) → IsBare h g.states g.letters → IsInnerUpTo g p 0 0 h
 inner-bare g p h b = record {

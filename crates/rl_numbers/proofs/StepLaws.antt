@@ -10,7 +10,7 @@ use mathlib.Core.Path.{fun_ext}
 use Rattle.rl_graph.proofs.GraphLaws.{bounded-whole}
 use Rattle.rl_numbers.specs.declared.triple.Triple.{Triple}
 use Rattle.rl_numbers.specs.Numbered.{triple_at, is_triple, triple_number, OnceEach, IsLevel, AreTriples}
-use Rattle.rl_numbers.specs.internal.NumberedFalls.{FirstsFall, StepsFall, IsApart, StartsHeld, HoldsIn, AllHold}
+use Rattle.rl_numbers.specs.internal.NumberedFalls.{FirstsFall, StepsFall, IsApart, HasSplitStarts, HoldsIn, AllHold}
 use Rattle.rl_numbers.proofs.IndexLaws.{at-there, at-once}
 
 -- Past the last letter there is no move.
@@ -39,7 +39,7 @@ its-number (Some j) k e = cc
 
 module _ (next : ℕ → ℕ → List ℕ) (n : ℕ) (rank : ℕ → ℕ) (l : List Triple) where
   -- What is looked at, triple by triple, makes the numbers right.
-  pub triples_shown : OnceEach l → Each (IsLevel n rank) l → Each (StepsFall next (triple_at l) rank) l → Each (IsApart (triple_at l)) l → StartsHeld next n (triple_at l) rank → AreTriples next n rank l
+  pub triples_shown : OnceEach l → Each (IsLevel n rank) l → Each (StepsFall next (triple_at l) rank) l → Each (IsApart (triple_at l)) l → HasSplitStarts next n (triple_at l) rank → AreTriples next n rank l
   triples_shown once levels steps apart starts = record {
     once = once;
     levels = levels;

@@ -1,4 +1,6 @@
-//! The number of paths that lead to a state along a word, counted up to two.
+//! The number of paths that lead from each state to one state along a word, counted up to 2, as a column with an entry
+//! for each state. A word is a list of letters. Parallel moves, which have the same state, letter and target, make
+//! different paths.
 
 ghost use Rattle.std.specs.Prelude.{◌≡◌, ℕ, ◌+◌, ◌<◌, ◌≤◌, ◌∷◌, [], All, List, length, slice_index, min, take, IfOk};
 ghost use Rattle.rl_graph.specs.Graph.{edges_of};
@@ -9,7 +11,7 @@ use rl_graph::Multigraph;
 use rl_lists::OutOfMemory;
 use std::alloc::Global;
 
-/// Returns the sum of a column over the states in a row, but at most two.
+/// Returns the sum of the entries of the states in a row, or 2 if the sum is greater.
 fn sum_over(row: &[u32], column: &[u8]) -> u8
     requires row_in { All (λ m. m < length column.now) row.now }
     requires low { All (λ k. k ≤ 2) column.now }
@@ -22,7 +24,7 @@ fn sum_over(row: &[u32], column: &[u8]) -> u8
     sum
 }
 
-/// Returns the column of the empty word.
+/// Returns the column of the empty word: 1 for the state `to`, and 0 for all others.
 fn start(alloc: Global, g: &Multigraph, to: u32) -> Result<Vec<u8>, OutOfMemory>
     ensures { IfOk result (λ v. IsColumn (edges_of g.now) g.now.states to [] v.items) }
 {
@@ -33,7 +35,7 @@ fn start(alloc: Global, g: &Multigraph, to: u32) -> Result<Vec<u8>, OutOfMemory>
     Ok(column)
 }
 
-/// Returns the column of a word with one more letter in front, given the column of the word.
+/// Returns the column of the word that begins with `letter` and goes on with the word of which `column` is the column.
 fn before(alloc: Global, g: &Multigraph, letter: u32, column: &[u8]) -> Result<Vec<u8>, OutOfMemory>
     requires letter_in { letter < g.now.letters }
     requires size { length column.now ≡ g.now.states }
@@ -49,8 +51,9 @@ fn before(alloc: Global, g: &Multigraph, letter: u32, column: &[u8]) -> Result<V
     Ok(sums)
 }
 
-/// Returns, for each state, the number of paths from it to `to` along a word, counted up to two. Each letter of the word
-/// takes time linear in the number of moves of all states on it.
+/// Returns, for each state, the number of paths from it to `to` along `word`, or 2 if there are more. The letters of
+/// `word` must be letters of the graph. If `to` is not a state, all entries are 0. Each letter takes time linear in the
+/// number of states plus the number of moves on it.
 ///
 /// # Errors
 /// [`OutOfMemory`] if there is not enough memory for the columns.

@@ -1,4 +1,5 @@
-//! The doubles of a state with itself, and the list of doubles for a list of codes.
+//! The doubles of a state with itself, and the list of doubles for a list of codes. In a graph with `n` states, the
+//! code of the double of `p` and `q` is `p * n + q`.
 
 ghost use Rattle.std.specs.Prelude.{◌≡◌, ℕ, ◌*◌, ◌/◌, ◌%◌, ◌<◌, ◌^◌, length, IfOk};
 ghost use Rattle.rl_graph.specs.Parts.{number_of};
@@ -11,7 +12,7 @@ use rl_graph::Parts;
 use rl_lists::{Items, OutOfMemory};
 use std::alloc::Global;
 
-/// Returns the codes of the doubles of each state with itself.
+/// Returns the code of the double of each state with itself. `states` is the number of states.
 pub(crate) fn diagonal(alloc: Global, states: u32) -> Result<Vec<u64>, OutOfMemory>
     requires few { states < 65536 }
     ensures { IfOk result (λ v. IsDiagonalUpTo states states v.items) }
@@ -24,7 +25,8 @@ pub(crate) fn diagonal(alloc: Global, states: u32) -> Result<Vec<u64>, OutOfMemo
     Ok(pairs)
 }
 
-/// Returns the double with the given code, with the number of its part.
+/// Returns the double with the code `code`, with the number of its part in the product. `states` is the number of
+/// states.
 fn double_at(states: u32, code: u64, parts: &Parts) -> Double
     requires few { states < 65536 }
     requires inside { code < states * states }
@@ -40,7 +42,8 @@ fn double_at(states: u32, code: u64, parts: &Parts) -> Double
     }
 }
 
-/// Returns the doubles with the given codes, with the numbers of their parts.
+/// Returns the doubles with the codes `keys`, in order, with the numbers of their parts in the product. `states` is the
+/// number of states.
 pub(crate) fn listed_doubles(
     alloc: Global,
     states: u32,

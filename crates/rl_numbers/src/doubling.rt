@@ -1,9 +1,11 @@
-//! Checking that the numbers of doubles exclude a twin.
+//! Checking that the numbers of doubles exclude a twin. A double is a pair of states with a number. A twin is a state
+//! with two different paths to itself along one word. A step of a double is two moves on one letter, one from each of
+//! its states. A row lists the targets of the moves of a state on a letter.
 
 ghost use Rattle.std.specs.Prelude.{◌≡◌, ◌≢◌, ℕ, ◌+◌, ◌<◌, ◌≤◌, ◌^◌, ◌↔◌, IsTrue, All, List, None, Some, length, slice_get, slice_index, is_some, IfOk, IfSome, IfNone};
 ghost use Rattle.rl_graph.specs.Graph.{edges_of};
 ghost use Rattle.rl_graph.specs.Paths.{Each};
-ghost use Rattle.rl_numbers.specs.Doubled.{OnceEach, IsInside, AreDoubles, EqualsHeld, number_in, IsIndex};
+ghost use Rattle.rl_numbers.specs.Doubled.{OnceEach, IsInside, AreDoubles, HasEqualDoubles, number_in, IsIndex};
 ghost use Rattle.rl_numbers.specs.internal.DoubledFalls.{FallsBelow, SecondsFall, FirstsFall, StepsFall, OthersFall, ApartsFall, LeavesFall, HoldsIn};
 
 use crate::double::Double;
@@ -12,24 +14,24 @@ use rl_graph::Multigraph;
 use rl_lists::OutOfMemory;
 use std::alloc::Global;
 
-/// Two states.
+/// Two states, in order.
 #[derive(Clone, Copy, PartialEq, Eq, Hash)]
 pub(crate) struct Pair {
     pub p: u32,
     pub q: u32,
 }
 
-/// The number of each double, by its states.
+/// An index that gives the number of a double by its states.
 pub(crate) type Index = IndexMap<Pair, u32>;
 
-/// Returns the number of the double of two states, if the list has one.
+/// Returns the number of the double of `p` and `q`, or `None` if the index doesn't have it.
 fn number_of(index: &Index, p: u32, q: u32) -> Option<u32>
     ensures { result ≡ number_in index.now p q }
 {
     index.get(&Pair { p, q }).copied()
 }
 
-/// Returns the numbers of the doubles, or `None` if a double occurs twice.
+/// Returns the index of a list of doubles, or `None` if a double occurs twice.
 fn index_of(alloc: Global, doubles: &[Double]) -> Result<Option<Index>, OutOfMemory>
     ensures numbers { IfOk result (λ o. IfSome o (IsIndex doubles.now)) }
     ensures once { IfOk result (λ o. IfSome o (λ _. OnceEach doubles.now)) }
@@ -53,7 +55,7 @@ fn index_of(alloc: Global, doubles: &[Double]) -> Result<Option<Index>, OutOfMem
     Ok(Some(index))
 }
 
-/// Whether the list has the double of two states with a number less than `most`.
+/// Returns whether the list has `(p, q)` with a number less than `most`.
 fn falls_below(index: &Index, most: u64, p: u32, q: u32) -> bool
     ensures { IsTrue result ↔ FallsBelow (number_in index.now) most p q }
 {
@@ -63,7 +65,7 @@ fn falls_below(index: &Index, most: u64, p: u32, q: u32) -> bool
     }
 }
 
-/// Whether the list has `(p, q)`, with a number less than `most`, for each state `q` in the row.
+/// Returns whether the list has `(p, q)`, with a number less than `most`, for each state `q` in the row.
 fn seconds_fall(index: &Index, most: u64, p: u32, row: &[u32]) -> bool
     ensures { IsTrue result ↔ SecondsFall (number_in index.now) most p row.now }
 {
@@ -75,7 +77,8 @@ fn seconds_fall(index: &Index, most: u64, p: u32, row: &[u32]) -> bool
     true
 }
 
-/// Whether the list has `(p, q)`, with a number less than `most`, for each state `p` in `row` and `q` in `second`.
+/// Returns whether the list has `(p, q)`, with a number less than `most`, for all states `p` in `row` and `q` in
+/// `second`.
 fn firsts_fall(index: &Index, most: u64, row: &[u32], second: &[u32]) -> bool
     ensures { IsTrue result ↔ FirstsFall (number_in index.now) most row.now second.now }
 {
@@ -87,8 +90,8 @@ fn firsts_fall(index: &Index, most: u64, row: &[u32], second: &[u32]) -> bool
     true
 }
 
-/// Whether the move `other` of the row is the move `number`, or the list has the double of `p` and its target with a number
-/// less than `most`.
+/// Returns whether the list has the double of `p` and the target of the row's move `other`, with a number less than
+/// `most`. The result is also true if `other` is `number`.
 fn other_falls(index: &Index, most: u64, number: usize, other: usize, p: u32, row: &[u32]) -> bool
     requires { other < length row.now }
     ensures { IsTrue result ↔ (number ≢ other → FallsBelow (number_in index.now) most p (slice_index row.now other)) }
@@ -96,8 +99,8 @@ fn other_falls(index: &Index, most: u64, number: usize, other: usize, p: u32, ro
     other == number || falls_below(index, most, p, row[other])
 }
 
-/// Whether the list has the double of `p` and the target of each move of the row other than `number`, with a number less than
-/// `most`.
+/// Returns whether the list has the double of `p` and the target of each move of the row except the move `number`, with
+/// numbers less than `most`.
 fn others_fall(index: &Index, most: u64, number: usize, p: u32, row: &[u32]) -> bool
     ensures { IsTrue result ↔ OthersFall (number_in index.now) most number p row.now }
 {
@@ -109,7 +112,8 @@ fn others_fall(index: &Index, most: u64, number: usize, p: u32, row: &[u32]) -> 
     true
 }
 
-/// Whether the list has the double of the targets of any two different moves of the row, with a number less than `most`.
+/// Returns whether the list has the double of the targets of any two different moves of the row, with numbers less than
+/// `most`.
 fn aparts_fall(index: &Index, most: u64, row: &[u32]) -> bool
     ensures { IsTrue result ↔ ApartsFall (number_in index.now) most row.now }
 {
@@ -121,11 +125,12 @@ fn aparts_fall(index: &Index, most: u64, row: &[u32]) -> bool
     true
 }
 
-/// Whether each step of a double leads to a double of the list with a number that is no greater.
+/// Returns whether each step of a double leads to a double of the list with a number that is no greater.
 fn steps_fall(g: &Multigraph, index: &Index, double: Double) -> bool
     requires { IsInside g.now.states double }
     ensures { IsTrue result ↔ StepsFall (edges_of g.now) (number_in index.now) double }
 {
+    // Reading the number of states tells the prover that the graph is well formed.
     let _states = g.states();
     let most = u64::from(double.number) + 1;
     for letter in 0..g.letters() {
@@ -138,8 +143,8 @@ fn steps_fall(g: &Multigraph, index: &Index, double: Double) -> bool
     true
 }
 
-/// Whether any two different moves of a state on one letter lead to a double with a smaller number, if `double` is the double
-/// of the state with itself.
+/// Returns whether any two different moves of a state on one letter lead to a double of the list with a smaller number
+/// than `double`, which is the double of the state with itself. For other doubles, the result is true.
 fn leaves_fall(g: &Multigraph, index: &Index, double: Double) -> bool
     requires { IsInside g.now.states double }
     ensures { IsTrue result ↔ LeavesFall (edges_of g.now) (number_in index.now) double }
@@ -147,6 +152,7 @@ fn leaves_fall(g: &Multigraph, index: &Index, double: Double) -> bool
     if double.p != double.q {
         return true;
     }
+    // Reading the number of states tells the prover that the graph is well formed.
     let _states = g.states();
     let most = u64::from(double.number);
     for letter in 0..g.letters() {
@@ -158,15 +164,16 @@ fn leaves_fall(g: &Multigraph, index: &Index, double: Double) -> bool
     true
 }
 
-/// Whether the states of a double are in range.
+/// Returns whether both states of a double are less than `states`.
 fn is_inside(states: u32, double: Double) -> bool
     ensures { IsTrue result ↔ IsInside states double }
 {
     double.p < states && double.q < states
 }
 
-/// Whether a double is in range, no step of it increases the number, and the number decreases where two different moves leave
-/// one state.
+/// Returns whether a double passes the check: its states are states of the graph, each step leads to a double of the
+/// list with a number that is no greater, and, if it is a state with itself, any two different moves of that state on
+/// one letter lead to a double with a smaller number.
 fn holds(g: &Multigraph, index: &Index, double: Double) -> bool
     ensures { IsTrue result ↔ HoldsIn (edges_of g.now) g.now.states (number_in index.now) double }
 {
@@ -179,7 +186,7 @@ fn holds(g: &Multigraph, index: &Index, double: Double) -> bool
     leaves_fall(g, index, double)
 }
 
-/// Whether each double passes its checks.
+/// Returns whether each double passes the check of `holds`.
 fn each_holds(g: &Multigraph, index: &Index, doubles: &[Double]) -> bool
     ensures { IsTrue result ↔ Each (HoldsIn (edges_of g.now) g.now.states (number_in index.now)) doubles.now }
 {
@@ -191,9 +198,9 @@ fn each_holds(g: &Multigraph, index: &Index, doubles: &[Double]) -> bool
     true
 }
 
-/// Whether the list has the double of each state with itself.
+/// Returns whether the list has the double of each state with itself. `states` is the number of states.
 fn equals_held(index: &Index, states: u32) -> bool
-    ensures { IsTrue result ↔ EqualsHeld states (number_in index.now) }
+    ensures { IsTrue result ↔ HasEqualDoubles states (number_in index.now) }
 {
     for state in 0..states {
         if number_of(index, state, state).is_none() {
@@ -203,14 +210,17 @@ fn equals_held(index: &Index, states: u32) -> bool
     true
 }
 
-/// Whether each double passes its checks, and the list has the double of each state with itself.
+/// Returns whether each double passes the check of `holds`, and the list has the double of each state with itself.
 fn all_hold(g: &Multigraph, index: &Index, doubles: &[Double]) -> bool
-    ensures { IsTrue result ↔ (Each (HoldsIn (edges_of g.now) g.now.states (number_in index.now)) doubles.now × EqualsHeld g.now.states (number_in index.now)) }
+    ensures { IsTrue result ↔ (Each (HoldsIn (edges_of g.now) g.now.states (number_in index.now)) doubles.now × HasEqualDoubles g.now.states (number_in index.now)) }
 {
     each_holds(g, index, doubles) && equals_held(index, g.states())
 }
 
-/// Whether a list of doubles holds for a graph.
+/// Returns whether a list of doubles shows that a graph has no twin. The result is true if and only if no double occurs
+/// twice, both states of each are states of the graph, the list has the double of each state with itself, each step
+/// leads to a double of the list with a number that is no greater, and any two different moves of one state on one
+/// letter lead to a double with a smaller number than the double of the state with itself.
 ///
 /// # Errors
 /// [`OutOfMemory`] if there is not enough memory for the index.

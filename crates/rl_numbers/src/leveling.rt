@@ -10,11 +10,11 @@ use rl_graph::Multigraph;
 use rl_lists::OutOfMemory;
 use std::alloc::Global;
 
-/// Up to this many moves of a state on a letter are copied one by one. If there are more, several lead to the same state, and
-/// only one of these is kept.
+/// The largest number of moves of a state on a letter that are copied one by one. If there are more, several lead to
+/// the same state, since there are at most 65,535 states, and only one move to each state is made.
 const MOST_MOVES: usize = 65_535;
 
-/// Adds the moves within the rank of a state on a letter with few moves.
+/// Adds to `inner` the moves of `state` on `letter` that lead to states of its rank, one for each move of `g`.
 fn add_few_on(
     inner: &mut Multigraph,
     g: &Multigraph,
@@ -42,7 +42,7 @@ fn add_few_on(
     Ok(())
 }
 
-/// Marks the states that are among the targets and have the rank `own`.
+/// Returns a flag for each state, which says whether the state is among the targets and has the rank `own`.
 fn marks_of(
     alloc: Global,
     ranks: &[u32],
@@ -60,7 +60,7 @@ fn marks_of(
     Ok(marks)
 }
 
-/// Adds a move of a state on a letter to each marked state.
+/// Adds to `inner` one move from `state` on `letter` to each marked state.
 fn add_marked_on(
     inner: &mut Multigraph,
     g: &Multigraph,
@@ -87,7 +87,8 @@ fn add_marked_on(
     Ok(())
 }
 
-/// Adds the moves within the rank of a state on a letter.
+/// Adds to `inner` the moves of `state` on `letter` that lead to states of its rank. If `g` has more than 65,535 moves
+/// of `state` on `letter`, only one move to each target is added.
 fn add_level_on(
     alloc: Global,
     inner: &mut Multigraph,
@@ -115,7 +116,8 @@ fn add_level_on(
     added
 }
 
-/// Adds the moves within the rank of a state.
+/// Adds to `inner` the moves of `state` on all letters that lead to states of its rank. If `g` has more than 65,535
+/// moves of `state` on a letter, only one move to each target is added.
 fn add_level_from(
     alloc: Global,
     inner: &mut Multigraph,
@@ -137,8 +139,9 @@ fn add_level_from(
     Ok(())
 }
 
-/// Makes the graph of the moves that lead to states of the same rank. If a state has more than 65,535 moves on a letter, only
-/// one move to each target is kept.
+/// Returns the graph of the moves of `g` that lead to a state with the rank of the state that they leave. `ranks` must
+/// have one rank for each state, and `g` must have fewer than 65,536 states. If a state has more than 65,535 moves on a
+/// letter, only one of its moves on this letter to each target is kept.
 ///
 /// # Errors
 /// [`OutOfMemory`] if there is not enough memory for the graph.

@@ -1,4 +1,8 @@
-//! Making the lists of doubles and of triples, with their numbers.
+//! Making the lists of doubles and of triples, which are pairs and triples of states with a number. In a graph with `n`
+//! states, the code of the double of `p` and `q` is `p * n + q`, and the code of the triple of `p`, `q` and `r` is
+//! `(p * n + q) * n + r`. A part is a strongly connected component. A twin is a state with two different paths to
+//! itself along one word, and a split is two different states `r` and `q` with paths from `r` to `r`, from `r` to `q`
+//! and from `q` to `q` along one word. `ranks` gives each state a number, its rank.
 
 ghost use Rattle.std.specs.Prelude.{◌≡◌, ℕ, ◌*◌, ◌<◌, ◌≤◌, All, length, slice_index, IfOk, OnOk, IfErr};
 ghost use Rattle.rl_graph.specs.Graph.{edges_of};
@@ -31,20 +35,21 @@ use rl_graph::{Multigraph, Twice, parts_of, product_parts};
 use rl_lists::OutOfMemory;
 use std::alloc::Global;
 
-/// The greatest number of triples in a list.
+/// The largest number of triples in a list that [`triples_of`] returns.
 pub const MOST_TRIPLES: usize = 1_000_000;
 
-/// States the value of the limit: 1,000,000 triples.
+/// Does nothing: its contract states the value of the limit, 1,000,000 triples.
 pub fn limits_are()
     ensures triples { MOST_TRIPLES ≡ 1000000 }
 {}
 
-/// The reason why there is no list of triples.
+/// The reason why [`triples_of`] returns no list.
 #[derive(Clone, Copy)]
 pub enum TriplesError {
-    /// The least list has more than 1,000,000 triples.
+    /// The list would have more than 1,000,000 triples: all that are reached from the triples `(r, r, q)` of different
+    /// states of equal rank on cycles.
     TooMany,
-    /// Out of memory.
+    /// There is not enough memory.
     OutOfMemory,
 }
 
@@ -58,7 +63,8 @@ impl From<OutOfMemory> for TriplesError {
     }
 }
 
-/// Returns the doubles that are reached from the starts, each with the number of its part.
+/// Returns the doubles that are reached from the doubles with the codes `starts` in the product of the graph with
+/// itself, each with the number of its part.
 fn doubles_by(alloc: Global, g: &Multigraph, starts: &[u64]) -> Result<Doubles, OutOfMemory>
     requires few_states { g.now.states < 65536 }
     requires starts { All (λ s. s < g.now.states * g.now.states) starts.now }
@@ -73,22 +79,26 @@ fn doubles_by(alloc: Global, g: &Multigraph, starts: &[u64]) -> Result<Doubles, 
     listed_doubles(alloc, states, &keys, &parts)
 }
 
-/// Returns the doubles of a graph without a twin.
+/// Returns a list of doubles that shows that a graph has no twin: all pairs of states that are reached from a pair of a
+/// state with itself in the product of the graph with itself, including these pairs, each once, with the number of its
+/// part in that product. The graph must have no twin and fewer than 65,536 states. If it has no states, the list is
+/// empty.
 ///
 /// # Errors
-/// [`OutOfMemory`] if there is not enough memory for them.
+/// [`OutOfMemory`] if there is not enough memory for the search or the doubles.
 pub fn doubles_of(alloc: Global, g: &Multigraph) -> Result<Doubles, OutOfMemory>
     requires few_states { g.now.states < 65536 }
     requires no_twin { HasNoTwin (edges_of g.now) }
     ensures { IfOk result (λ l. AreDoubles (edges_of g.now) g.now.states l) }
 {
     let states = g.states();
+    // Reading the number of letters tells the prover that it fits in 32 bits.
     let _letters = g.letters();
     let starts = diagonal(alloc, states)?;
     doubles_by(alloc, g, &starts)
 }
 
-/// Returns the graph of the moves that lead to states of the same rank.
+/// Returns the graph of the moves that lead to states of the same rank. `ranks` has the rank of each state.
 fn level(alloc: Global, g: &Multigraph, ranks: &[u32]) -> Result<Level, OutOfMemory>
     requires few_states { g.now.states < 65536 }
     requires size { length ranks.now ≡ g.now.states }
@@ -99,7 +109,8 @@ fn level(alloc: Global, g: &Multigraph, ranks: &[u32]) -> Result<Level, OutOfMem
     Ok(Level::of(graph))
 }
 
-/// Returns the codes of the triples that are reached from the starts, unless there are too many.
+/// Returns the codes of the triples that are reached from the triples with the codes `starts`, each once. The error is
+/// [`TriplesError::TooMany`] if there are more than [`MOST_TRIPLES`].
 fn keys_of(alloc: Global, level: &Level, starts: &[u64]) -> Result<IndexSet<u64>, TriplesError>
     requires { All (λ s. s < level.now.states * level.now.states * level.now.states) starts.now }
     ensures reach { IfOk result (λ keys. IsReach (triple_moves (edges_of level.now) level.now.states) starts.now keys.keys) }
@@ -114,7 +125,8 @@ fn keys_of(alloc: Global, level: &Level, starts: &[u64]) -> Result<IndexSet<u64>
     }
 }
 
-/// Returns the codes of the triples from which the others are reached.
+/// Returns the codes of the starts: the triples `(r, r, q)` of different states that have the same rank and lie on
+/// cycles.
 fn first_triples(alloc: Global, g: &Multigraph, ranks: &[u32]) -> Result<Vec<u64>, OutOfMemory>
     requires few_states { g.now.states < 65536 }
     requires size { length ranks.now ≡ g.now.states }
@@ -125,7 +137,8 @@ fn first_triples(alloc: Global, g: &Multigraph, ranks: &[u32]) -> Result<Vec<u64
     starts_of(alloc, g.states(), ranks, &components)
 }
 
-/// Returns the triples that are reached from the starts, each with the number of its part.
+/// Returns the triples that are reached from the triples with the codes `starts`, each with the number of its part in
+/// the graph of these triples. The error is [`TriplesError::TooMany`] if there are more than [`MOST_TRIPLES`].
 fn triples_from(alloc: Global, level: &Level, starts: &[u64]) -> Result<Triples, TriplesError>
     requires { All (λ s. s < level.now.states * level.now.states * level.now.states) starts.now }
     ensures triples { IfOk result (AreReachedTriples level.now starts.now) }
@@ -138,11 +151,16 @@ fn triples_from(alloc: Global, level: &Level, starts: &[u64]) -> Result<Triples,
     Ok(triples)
 }
 
-/// Returns the triples of a graph without a split between states of the same rank.
+/// Returns a list of triples that shows that a graph has no split between states of the same rank, provided that ranks
+/// never rise along a move: the triples that are reached from all `(r, r, q)` of different states of equal rank on
+/// cycles, by moves of all three states on one letter to states of that rank, each once. The number of a triple is the
+/// number of its part in the graph of these triples, in which each `(p, q, q)` also has a move to `(p, p, q)`. `g` must
+/// have no split between states of the same rank and fewer than 65,536 states. `ranks` must have one rank for each
+/// state.
 ///
 /// # Errors
-/// [`TriplesError::TooMany`] if the least list has more than 1,000,000 triples; [`TriplesError::OutOfMemory`] if there is not
-/// enough memory for them.
+/// [`TriplesError::TooMany`] if more than 1,000,000 triples are reached; [`TriplesError::OutOfMemory`] if there is not
+/// enough memory for the search or the triples.
 pub fn triples_of(alloc: Global, g: &Multigraph, ranks: &[u32]) -> Result<Triples, TriplesError>
     requires few_states { g.now.states < 65536 }
     requires size { length ranks.now ≡ g.now.states }

@@ -16,7 +16,7 @@ use Rattle.rl_pairs.specs.declared.finder.Key.{Key}
 use Rattle.rl_pairs.specs.LivePairs.{pairs_from, next_pairs}
 use Rattle.rl_pairs.specs.PairGraph.{KeptLive, seen_after}
 use Rattle.rl_pairs.specs.Counted.{moved}
-use Rattle.rl_pairs.specs.internal.Counting.{IsCounted, IsCounting, Keeps, IsOnward, IsNumberOf, Stands}
+use Rattle.rl_pairs.specs.internal.Counting.{IsCounted, IsCounting, Keeps, IsOnward, IsNumberOf, HasNumber}
 use Rattle.rl_pairs.specs.internal.Finding.{Found, with_row, first_key, key_at, pair_of, pair_at, rest_at, width, next_in, next_of, flat, IsFound, Stays, IsRowOf, IsMoved, IsNoted, IsTrying, IsFurther, tried, set_for}
 use Rattle.rl_pairs.proofs.SetLaws.{has-holds}
 use Rattle.rl_pairs.proofs.CountingLaws.{image-counted, Keeps-trans, onward-refl, onward-trans}
@@ -25,7 +25,7 @@ use Rattle.rl_pairs.proofs.FindingLaws.{number-keeps, pair-keeps, found-keeps, f
 
 -- The pairs of a row stay
 
-stands-keeps : (v w : Walk) (set : List ℕ) → Keeps v w → Stands v set → Stands w set
+stands-keeps : (v w : Walk) (set : List ℕ) → Keeps v w → HasNumber v set → HasNumber w set
 stands-keeps v w set k s = (s.0, number-keeps v w set s.0 k s.1)
 
 pub pair-stays : (v w : Walk) (f g : Found) (k : ℕ) → Keeps v w → Stays f g → k < length f.keys → (key_at f k).set < length v.sets → pair_at w g k ≡ pair_at v f k
@@ -34,17 +34,17 @@ pair-stays v w f g k keeps stays lt in' = ap (pair_of w) (stays.same k lt) ∙ p
 pub row-stays : (a : Automaton) (v w : Walk) (f g : Found) (ps : List Pair) (row : List ℕ) → Keeps v w → Stays f g → ((k : ℕ) → Has k row → k < length f.keys) → ((k : ℕ) → k < length f.keys → (key_at f k).set < length v.sets) → IsRowOf a v f ps row → IsRowOf a w g ps row
 row-stays a v w f g ps row keeps stays inside sets r = record {
   kept = KeptLive-same a (pair_at v f) (pair_at w g) ps row (λ k h. pair-stays v w f g k keeps stays (inside k h) (sets k (inside k h))) r.kept;
-  standing = Each-weaker (λ p. Stands v p.set) (λ p. Stands w p.set) ps (λ p s. stands-keeps v w p.set keeps s) r.standing;
+  standing = Each-weaker (λ p. HasNumber v p.set) (λ p. HasNumber w p.set) ps (λ p s. stands-keeps v w p.set keeps s) r.standing;
 }
 
-row-push : (a : Automaton) (w : Walk) (g : Found) (ps : List Pair) (p : Pair) (row new : List ℕ) → IsRowOf a w g ps row → IsNoted a w g p row new → Stands w p.set → IsRowOf a w g (ps ++ p ∷ []) new
+row-push : (a : Automaton) (w : Walk) (g : Found) (ps : List Pair) (p : Pair) (row new : List ℕ) → IsRowOf a w g ps row → IsNoted a w g p row new → HasNumber w p.set → IsRowOf a w g (ps ++ p ∷ []) new
 row-push a w g ps p row new r (inl (dead, e)) s = record {
   kept = subst (λ (l : List ℕ). KeptLive a (pair_at w g) (ps ++ p ∷ []) l) (sym e) (KeptLive-dead a (pair_at w g) ps row p r.kept dead);
-  standing = Each-push (λ q. Stands w q.set) ps p r.standing s;
+  standing = Each-push (λ q. HasNumber w q.set) ps p r.standing s;
 }
 row-push a w g ps p row new r (inr (k, live, lt, is, e)) s = record {
   kept = subst (λ (l : List ℕ). KeptLive a (pair_at w g) (ps ++ p ∷ []) l) (sym e) (KeptLive-live a (pair_at w g) ps row p k r.kept live is);
-  standing = Each-push (λ q. Stands w q.set) ps p r.standing s;
+  standing = Each-push (λ q. HasNumber w q.set) ps p r.standing s;
 }
 
 -- The targets of a row are among all targets
@@ -120,7 +120,7 @@ module _ (a : Automaton) (v : Walk) (f : Found) (from letter : ℕ) (img ts : Li
         let next : suc k ≡ k + 1 = omega arith in
         let back : k ≡ (k + 1) - 1 = omega arith in
         let before = row-stays a w y g h (pairs_from a img (take k ts)) row keeps stays (row-inside a w g row t.found) t.found.sets t.row_of in
-        let standing : Stands y (nth k).set = (n, record { within = omega (arith, is.within, p.keeps.longer); is = p.keeps.same n is.within ∙ set-is }) in
+        let standing : HasNumber y (nth k).set = (n, record { within = omega (arith, is.within, p.keeps.longer); is = p.keeps.same n is.within ∙ set-is }) in
         record {
           onward = onward-trans a v x y (Keeps-trans v w x t.onward.keeps o.keeps) p;
           found = found;
@@ -212,9 +212,6 @@ further-trans a u v w f g h c d x y = record {
   stays = Stays-trans f g h x.stays y.stays;
   moved = y.moved;
 }
-
-pub last-letter : (a : Automaton) (w : Walk) (f : Found) (from letter end : ℕ) → letter ≡ end → IsMoved a w f (from * width a + letter) → IsMoved a w f (from * width a + end)
-last-letter a w f from letter end e m = subst (λ (n : ℕ). IsMoved a w f (from * width a + n)) e m
 
 -- ---- the pairs one after another
 

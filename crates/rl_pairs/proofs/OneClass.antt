@@ -10,7 +10,7 @@ use Rattle.rl_syntax.specs.Tree.{size}
 use Rattle.rl_syntax.specs.Cost.{cost}
 use Rattle.rl_syntax.specs.Family.{family_text, IsFamily}
 use Rattle.rl_graph.specs.Bounds.{bound_c}
-use Rattle.rl_pairs.specs.RightVerdict.{Question, IsPassed, IsNamed, HasDegree, IsBounded, RightVerdict}
+use Rattle.rl_pairs.specs.RightVerdict.{Question, IsExceeded, IsNamed, HasDegree, IsBounded, RightVerdict}
 use Rattle.rl_pairs.proofs.Growing.{no-smaller-power, no-power}
 use Rattle.rl_pairs.proofs.FamilyLengths.{factor_of, text-short, texts-texts}
 
@@ -37,7 +37,7 @@ pub degree_or_expo : (q : Question) (d : ℕ) (f g : Family) → RightVerdict q 
 degree_or_expo q d f g (has, bounded) expo =
     no-power (bound_c (size q.tree) d) (factor_of g) d (λ k some. le_trans (expo.lower k) (cost-bounded q d 1 g bounded expo.family k some))
 
-named-passed : (q : Question) (limit : Limit) → IsNamed q limit → IsPassed q limit
+named-passed : (q : Question) (limit : Limit) → IsNamed q limit → IsExceeded q limit
 named-passed q Size h = h
 named-passed q Letters h = h.1
 named-passed q Moves h = h.2

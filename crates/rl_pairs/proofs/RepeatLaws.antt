@@ -1,18 +1,18 @@
 -- Laws of the search for live pairs: if a pair has the same moves on a letter as on the letter before it, the row is the
 -- same.
-use Rattle.std.proofs.Common.{◌≡◌, ◌∙◌, ℕ, zero, suc, ◌+◌, ◌-◌, ◌*◌, ◌<◌, ◌≤◌, inl, inr, List, [], ◌∷◌, ◌++◌, length, take, refl, sym, ap, ap₂, subst, arith}
+use Rattle.std.proofs.Common.{◌≡◌, ◌∙◌, ℕ, suc, ◌+◌, ◌-◌, ◌*◌, ◌<◌, ◌≤◌, inl, inr, List, [], ◌∷◌, ◌++◌, length, take, refl, sym, ap, subst, arith}
 use Rattle.std.proofs.Math.Nat.{suc-mul, mul-le-mul_right}
 use Rattle.std.proofs.lemmas.Bool.{cases_lt}
 use Rattle.std.proofs.lemmas.List.{append_assoc, append-nil, take_all}
-use Rattle.rl_graph.specs.Paths.{Has, Each}
+use Rattle.rl_graph.specs.Paths.{Each}
 use Rattle.rl_graph.proofs.Sums.{each-has, Each-has}
 use Rattle.rl_prio.specs.Automaton.{Automaton, letters_count, moves_at}
 use Rattle.rl_sets.specs.Live.{image}
 use Rattle.rl_sets.specs.Walk.{Walk, set_at}
 use Rattle.rl_pairs.specs.declared.pair.Pair.{Pair}
 use Rattle.rl_pairs.specs.LivePairs.{pairs_from, next_pairs}
-use Rattle.rl_pairs.specs.internal.Counting.{Keeps, IsOnward, IsNumberOf, Stands}
-use Rattle.rl_pairs.specs.internal.Finding.{Found, with_row, key_at, pair_at, width, next_of, IsFound, Stays, IsRowOf, IsMoved, IsTrying, IsFurther, tried}
+use Rattle.rl_pairs.specs.internal.Counting.{Keeps, IsOnward, IsNumberOf, HasNumber}
+use Rattle.rl_pairs.specs.internal.Finding.{Found, with_row, pair_at, width, next_of, IsFound, IsRowOf, IsMoved, IsTrying, IsFurther, tried}
 use Rattle.rl_pairs.proofs.RowLaws.{pairs-has}
 use Rattle.rl_pairs.proofs.FindingLaws.{found-keeps, found-old, found-row, Stays-refl}
 use Rattle.rl_pairs.proofs.ExpandLaws.{row-stays, pair-stays, next-inside, letter-done}
@@ -23,11 +23,11 @@ found-more a w f done [] i e = subst (λ l. IsFound a w (with_row f l)) (sym (ap
 found-more a w f done (j ∷ row) i e = subst (λ l. IsFound a w (with_row f l)) (append_assoc done (j ∷ []) row) (found-more a w f (done ++ j ∷ []) row (found-old a w f done j e.0 i) e.1)
 
 -- The walk has the set for the last move.
-last-stands : (a : Automaton) (w : Walk) (img ts : List ℕ) → Stands w img → Each (λ p. Stands w p.set) (pairs_from a img ts) → Stands w (tried a img (take (length ts - 1) ts))
+last-stands : (a : Automaton) (w : Walk) (img ts : List ℕ) → HasNumber w img → Each (λ p. HasNumber w p.set) (pairs_from a img ts) → HasNumber w (tried a img (take (length ts - 1) ts))
 last-stands a w img [] s e = s
 last-stands a w img (t ∷ ts) s e =
     let n : length ts ≡ length (t ∷ ts) - 1 = omega arith in
-    subst (λ k. Stands w (tried a img (take k (t ∷ ts)))) n (Each-has (λ p. Stands w p.set) _ (pairs_from a img (t ∷ ts)) e (pairs-has a img (t ∷ ts) (length ts) (omega arith)))
+    subst (λ k. HasNumber w (tried a img (take k (t ∷ ts)))) n (Each-has (λ p. HasNumber w p.set) _ (pairs_from a img (t ∷ ts)) e (pairs-has a img (t ∷ ts) (length ts) (omega arith)))
 
 module _ (a : Automaton) (v w : Walk) (f : Found) (from letter : ℕ) (i : IsFound a v f) (from_in : from < length f.keys) (le : letter ≤ letters_count a) (m : IsMoved a v f (from * width a + letter)) (o : IsOnward a v w) where
   earlier : (q l : ℕ) → l < width a → q * width a + l < from * width a + letter → q < length f.keys
@@ -54,7 +54,7 @@ module _ (a : Automaton) (v w : Walk) (f : Found) (from letter : ℕ) (i : IsFou
     };
   }
 
-  module _ (later : 0 < letter) (same : next_pairs a (pair_at v f from) (letter - 1) ≡ next_pairs a (pair_at v f from) letter) (s : Stands w (image a (pair_at v f from).set letter)) where
+  module _ (later : 0 < letter) (same : next_pairs a (pair_at v f from) (letter - 1) ≡ next_pairs a (pair_at v f from) letter) (s : HasNumber w (image a (pair_at v f from).set letter)) where
     abbrev img : List ℕ
     img = image a (pair_at v f from).set letter
 
@@ -87,5 +87,5 @@ pub same-image : (a : Automaton) (v x w : Walk) (set before letter m n : ℕ) �
 same-image a v x w set before letter m n lt k l p q e =
     sym p.is ∙ sym (l.same m p.within) ∙ ap (set_at w) e ∙ q.is ∙ ap (λ s. image a s letter) (k.same set lt)
 
-pub image-stands : (a : Automaton) (v x w : Walk) (set letter n : ℕ) → set < length v.sets → Keeps v x → IsNumberOf w (image a (set_at x set) letter) n → Stands w (image a (set_at v set) letter)
+pub image-stands : (a : Automaton) (v x w : Walk) (set letter n : ℕ) → set < length v.sets → Keeps v x → IsNumberOf w (image a (set_at x set) letter) n → HasNumber w (image a (set_at v set) letter)
 image-stands a v x w set letter n lt k q = (n, record { within = q.within; is = q.is ∙ ap (λ s. image a s letter) (k.same set lt) })

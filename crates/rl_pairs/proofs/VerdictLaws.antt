@@ -1,5 +1,5 @@
 -- From a twin or a chain of the graph of live pairs to a verdict; how large the graph is.
-use Rattle.std.proofs.Common.{◌≡◌, ℕ, suc, ◌<◌, ◌≤◌, ◌⊎◌, inl, inr, List, [], ◌∷◌, length, Bool, true, refl, ap, arith, All, map, length-append, ◌+◌, ◌*◌, ◌^◌, subst, sym, refl}
+use Rattle.std.proofs.Common.{◌≡◌, ℕ, suc, ◌<◌, ◌≤◌, ◌⊎◌, inl, inr, List, [], ◌∷◌, length, Bool, true, refl, ap, arith, All, map, length-append, ◌+◌, ◌*◌, ◌^◌, subst, sym}
 use Rattle.std.proofs.lemmas.Bool.{cases_lt}
 use Rattle.std.proofs.Math.Nat.{pow-zero}
 use Rattle.std.proofs.lemmas.List.{length-map}
@@ -27,14 +27,14 @@ use Rattle.rl_pairs.specs.LivePairs.{LivePair, pairs_from, next_pairs, refused}
 use Rattle.rl_pairs.specs.PairGraph.{IsPairGraph, IsNumbered, KeptLive}
 use Rattle.rl_pairs.specs.Counted.{MoreThan}
 use Rattle.rl_pairs.specs.Families.{Chained, chain_heads, chain_pumps, to_end, Spells}
-use Rattle.rl_pairs.specs.RightVerdict.{Question, IsMachine, IsPassed, HasDegree, IsExpo, IsBounded}
+use Rattle.rl_pairs.specs.RightVerdict.{Question, IsMachine, IsExceeded, HasDegree, IsExpo, IsBounded}
 use Rattle.rl_pairs.proofs.StillLaws.{still_of}
 use Rattle.rl_pairs.proofs.CostLaws.{twin_spells, twin_family, chain_spells, chain_family, texts_exact}
 use Rattle.rl_pairs.proofs.CountLaws.{few-pairs, no-more-than-states}
 use Rattle.rl_pairs.proofs.NumberLaws.{more-than-limit}
 use Rattle.rl_pairs.proofs.SameLaws.{pairs-passed}
 
-pub twin_verdict : (q : Question) (a : Automaton) (next : ℕ → ℕ → List ℕ) (at : ℕ → Pair) (n : ℕ) → IsMachine q a → IsAutomaton a → IsPairGraph a next at n → ((limit : Limit) → IsPassed q limit → ⊥)
+pub twin_verdict : (q : Question) (a : Automaton) (next : ℕ → ℕ → List ℕ) (at : ℕ → Pair) (n : ℕ) → IsMachine q a → IsAutomaton a → IsPairGraph a next at n → ((limit : Limit) → IsExceeded q limit → ⊥)
     → (f : Family) (p : ℕ) (x y last : List ℕ) → Spells a f (x ∷ (last ∷ [])) (y ∷ []) → 1 ≤ paths next 0 p x → 2 ≤ paths next p p y → IsRest a (to_end a last) → refused a at p (to_end a last) ≡ true → IsExpo q f
 twin_verdict q a next at n machine whole g within f p x y last spells lead twin r ok =
     record {
@@ -43,7 +43,7 @@ twin_verdict q a next at n machine whole g within f p x y last spells lead twin 
       lower = twin_spells a q.tree q.ending next at n whole machine.stands g f p x y last spells lead twin r ok;
     }
 
-pub chain_verdict : (q : Question) (a : Automaton) (next : ℕ → ℕ → List ℕ) (at : ℕ → Pair) (n : ℕ) → IsMachine q a → IsAutomaton a → IsPairGraph a next at n → ((limit : Limit) → IsPassed q limit → ⊥)
+pub chain_verdict : (q : Question) (a : Automaton) (next : ℕ → ℕ → List ℕ) (at : ℕ → Pair) (n : ℕ) → IsMachine q a → IsAutomaton a → IsPairGraph a next at n → ((limit : Limit) → IsExceeded q limit → ⊥)
     → (f : Family) (links : List Link) (x : List ℕ) (z : ℕ) (y last : List ℕ) → Spells a f (chain_heads links x last) (chain_pumps links y) → Chained next 0 links x z → 1 ≤ paths next z z y → 1 ≤ length y → IsRest a (to_end a last) → refused a at z (to_end a last) ≡ true
     → HasDegree q (suc (length links)) f
 chain_verdict q a next at n machine whole g within f links x z y last spells chain cycle some r ok =
@@ -53,7 +53,7 @@ chain_verdict q a next at n machine whole g within f links x z y last spells cha
       lower = chain_spells a q.tree q.ending next at n whole machine.stands g f links x z y last spells chain cycle some r ok;
     }
 
-pub flat_verdict : (q : Question) → ((limit : Limit) → IsPassed q limit → ⊥) → (f : Family) → IsFamily q.universe 0 f → HasDegree q 0 f
+pub flat_verdict : (q : Question) → ((limit : Limit) → IsExceeded q limit → ⊥) → (f : Family) → IsFamily q.universe 0 f → HasDegree q 0 f
 flat_verdict q within f family = record { within = within; family = family; lower = λ k. omega (arith, pow-zero k) }
 
 pub few-live : (a : Automaton) (t : Tree) (ending : Ending) (sets : List (ℕ → Bool)) → IsAutomaton a → StandsOver a t ending sets → MoreThan (bound_n (size t)) (LivePair a) → ⊥
@@ -84,7 +84,7 @@ graph-within a t ending sets next at n stands g = record { targets = λ q l m lt
     by q l lt (inr le) =
         omega (arith, length-kept a at (next_pairs a (at q) l) (next q l) (g.moves q l lt le), length-from a (image a (at q).set l) (moves_at a (at q).state l), moves-short a t ending sets stands (at q).state l)
 
-pub pairs-within : (q : Question) (a : Automaton) (next : ℕ → ℕ → List ℕ) (at : ℕ → Pair) (n : ℕ) → IsMachine q a → IsPairGraph a next at n → n ≤ q.max_pairs → IsPassed q Pairs → ⊥
+pub pairs-within : (q : Question) (a : Automaton) (next : ℕ → ℕ → List ℕ) (at : ℕ → Pair) (n : ℕ) → IsMachine q a → IsPairGraph a next at n → n ≤ q.max_pairs → IsExceeded q Pairs → ⊥
 pairs-within q a next at n machine g few passed = no-more-than-states a next at n q.max_pairs g few (pairs-passed q a machine passed)
 
 -- The bounds from above

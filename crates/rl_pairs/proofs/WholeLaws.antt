@@ -21,7 +21,7 @@ use Rattle.rl_pairs.specs.declared.finder.Key.{Key}
 use Rattle.rl_pairs.specs.LivePairs.{first_pair, next_pairs, LivePair, first, refused}
 use Rattle.rl_pairs.specs.PairGraph.{IsPairGraph, IsNumbered, AreFirstSeen, seen_after, seen_before, targets_of}
 use Rattle.rl_pairs.specs.Counted.{CountedSet, moved, imaged, MoreThan}
-use Rattle.rl_pairs.specs.internal.Counting.{IsCounting, Keeps, IsOnward, Stands, IsClosed}
+use Rattle.rl_pairs.specs.internal.Counting.{IsCounting, Keeps, IsOnward, HasNumber, IsClosed}
 use Rattle.rl_pairs.specs.internal.Finding.{Found, first_key, key_at, pair_of, pair_at, lead_at, rest_at, width, next_of, flat, IsFound, IsRowOf, IsMoved, IsFurther, IsWhole}
 use Rattle.rl_pairs.specs.PairTable.{PairTable, moves_in, pair_in, lead_in, rest_in, IsFull}
 use Rattle.rl_pairs.specs.internal.Rows.{graph_of_rows, IsBuilt}
@@ -136,16 +136,16 @@ module _ (a : Automaton) (w : Walk) (f : Found) (c : IsCounting a w) (i : IsFoun
   leads-lead k lt = lead-leads (suc k) k (omega arith) lt
 
   -- A closed walk has each counted set.
-  counted-stands : IsClosed a w (length w.sets) 0 → (set : List ℕ) → CountedSet a set → Stands w set
+  counted-stands : IsClosed a w (length w.sets) 0 → (set : List ℕ) → CountedSet a set → HasNumber w set
   counted-stands closed set (moved {p = p} state letter from le has) =
       let n = number-there a (next_of a f) (pair_at w f) (length f.keys) pair_graph p from in
       let r = (m.moves n.0 letter le (in-place n.0 letter (length f.keys) (width a) (omega arith) n.1)).standing in
-      Each-has (λ q. Stands w q.set) (record { state = state; set = set }) (next_pairs a (pair_at w f n.0) letter) r (subst (λ (q : Pair). Has (record { state = state; set = set }) (next_pairs a q letter)) (sym n.2) has)
+      Each-has (λ q. HasNumber w q.set) (record { state = state; set = set }) (next_pairs a (pair_at w f n.0) letter) r (subst (λ (q : Pair). Has (record { state = state; set = set }) (next_pairs a q letter)) (sym n.2) has)
   counted-stands closed s (imaged {set = set} letter from le free) =
       let n = counted-stands closed set from in
-      subst (λ (r : List ℕ). Stands w (image a r letter)) n.1.is (closed.whole n.0 letter n.1.within le (λ h. free (subst (Has (accepting_state a)) n.1.is h)))
+      subst (λ (r : List ℕ). HasNumber w (image a r letter)) n.1.is (closed.whole n.0 letter n.1.within le (λ h. free (subst (Has (accepting_state a)) n.1.is h)))
 
-  stands-has : (set : List ℕ) → Stands w set → Has set w.sets
+  stands-has : (set : List ℕ) → HasNumber w set → Has set w.sets
   stands-has set s = subst (λ (r : List ℕ). Has r w.sets) s.1.is (Has-get_or w.sets s.0 [] s.1.within)
 
   pub few-sets : IsClosed a w (length w.sets) 0 → MoreThan 20000 (CountedSet a) → ⊥

@@ -1,5 +1,11 @@
 -- Right verdicts: what a verdict on a tree, an ending and a universe states about the costs of all texts, and when no verdict
--- has to be given because a limit is exceeded. This is the degree of growth of Weber and Seidl (1991), applied to costs.
+-- has to be given because a limit is exceeded. The degree of a verdict is the degree of growth of Weber and Seidl (1991),
+-- applied to costs. The cost of a text is one more than the number of steps that a match of it takes. An automaton stands for
+-- a tree and an ending if it has the letters, states and moves that these define. A pair is a state of the automaton with a
+-- set: the states that were tried before it. A live pair is the first pair, or a pair whose set refuses some rest of a text,
+-- which means that none of its states accepts the rest, and to which a live pair has a move. A counted set is the set of a
+-- pair to which a live pair has a move, or the image of a counted set that doesn't have the accepting state. A family has
+-- heads and pumps: its text for `k` is the heads in order, with each pump, repeated `k` times, after its head.
 use Rattle.std.specs.Prelude.{ℕ, ◌+◌, ◌*◌, ◌^◌, ◌<◌, ◌≤◌, ◌≡◌, List, length}
 use Rattle.rl_ranges.specs.declared.universe.Universe.{Universe}
 use Rattle.rl_ranges.specs.Text.{code_count, IsText}
@@ -34,33 +40,36 @@ pub record IsMachine (q : Question) (a : Automaton) : Type 0 where
   pub stands : StandsFor a q.tree q.ending
   pub same_codes : a.table.codes ≡ code_count q.universe
 
--- The limit is exceeded: the tree has too many nodes, too many letters or too long an item list, its automaton has more live
--- pairs than allowed, or there are too many counted sets.
-abbrev pub IsPassed : Question → Limit → Type 0
-IsPassed q Size = MOST_NODES < size q.tree
-IsPassed q Letters = MOST_LETTERS < length (letters q.tree (code_count q.universe))
-IsPassed q Moves = MOST_MOVES < longest q.tree
-IsPassed q Pairs = (a : Automaton) × IsMachine q a × MoreThan q.max_pairs (LivePair a)
-IsPassed q Sets = (a : Automaton) × IsMachine q a × MoreThan MOST_COUNTED_SETS (CountedSet a)
+-- The limit is exceeded. `Size`: the tree has more than `MOST_NODES` nodes. `Letters`: it has more than `MOST_LETTERS`
+-- letters. `Moves`: its longest item list has more than `MOST_MOVES` items. `Pairs` and `Sets`: some automaton for the
+-- question (`IsMachine`) has more than `max_pairs` live pairs, or more than `MOST_COUNTED_SETS` counted sets.
+abbrev pub IsExceeded : Question → Limit → Type 0
+IsExceeded q Size = MOST_NODES < size q.tree
+IsExceeded q Letters = MOST_LETTERS < length (letters q.tree (code_count q.universe))
+IsExceeded q Moves = MOST_MOVES < longest q.tree
+IsExceeded q Pairs = (a : Automaton) × IsMachine q a × MoreThan q.max_pairs (LivePair a)
+IsExceeded q Sets = (a : Automaton) × IsMachine q a × MoreThan MOST_COUNTED_SETS (CountedSet a)
 
--- None of the limits that are checked before the automaton is built is exceeded.
+-- The limits that are checked before the automaton is built, which are size, letters and moves, aren't exceeded.
 pub record IsSmall (q : Question) : Type 0 where
-  pub size : IsPassed q Size → ⊥
-  pub letters : IsPassed q Letters → ⊥
-  pub moves : IsPassed q Moves → ⊥
+  pub size : IsExceeded q Size → ⊥
+  pub letters : IsExceeded q Letters → ⊥
+  pub moves : IsExceeded q Moves → ⊥
 
 -- It is right to name the limit: it is the first one exceeded among size, letters and moves, or none of these three is
 -- exceeded and the limit is pairs or sets and is exceeded.
 abbrev pub IsNamed : Question → Limit → Type 0
-IsNamed q Size = IsPassed q Size
-IsNamed q Letters = (IsPassed q Size → ⊥) × IsPassed q Letters
-IsNamed q Moves = (IsPassed q Size → ⊥) × (IsPassed q Letters → ⊥) × IsPassed q Moves
-IsNamed q Pairs = IsSmall q × IsPassed q Pairs
-IsNamed q Sets = IsSmall q × IsPassed q Sets
+IsNamed q Size = IsExceeded q Size
+IsNamed q Letters = (IsExceeded q Size → ⊥) × IsExceeded q Letters
+IsNamed q Moves = (IsExceeded q Size → ⊥) × (IsExceeded q Letters → ⊥) × IsExceeded q Moves
+IsNamed q Pairs = IsSmall q × IsExceeded q Pairs
+IsNamed q Sets = IsSmall q × IsExceeded q Sets
 
--- The family is a family of degree `d`, no limit is exceeded, and the text of the family for each `k` costs at least `k^d`.
+-- The lower bound of a degree. No limit is exceeded. The family has `d` pumps, none of them empty, and `d + 1` heads, all of
+-- them texts of the universe (`IsFamily`). For each `k`, the family's text with each pump repeated `k` times costs at least
+-- `k^d`.
 pub record HasDegree (q : Question) (d : ℕ) (f : Family) : Type 0 where
-  pub within : (limit : Limit) → IsPassed q limit → ⊥
+  pub within : (limit : Limit) → IsExceeded q limit → ⊥
   pub family : IsFamily q.universe d f
   pub lower : (k : ℕ) → k ^ d ≤ cost q.tree q.ending (family_text f k)
 
@@ -69,14 +78,17 @@ pub record HasDegree (q : Question) (d : ℕ) (f : Family) : Type 0 where
 abbrev pub IsBounded : Question → ℕ → Type 0
 IsBounded q d = (w : List ℕ) → IsText q.universe w → cost q.tree q.ending w ≤ bound_c (size q.tree) d * (length w + 1) ^ d
 
--- The family is an exponential family, no limit is exceeded, and the text of the family for each `k` costs at least `2^k`.
+-- The lower bound of exponential growth. No limit is exceeded. The family has one pump, which isn't empty, between two heads,
+-- all of them texts of the universe (`IsExpoFamily`). For each `k`, the family's text with the pump repeated `k` times costs
+-- at least `2^k`.
 pub record IsExpo (q : Question) (f : Family) : Type 0 where
-  pub within : (limit : Limit) → IsPassed q limit → ⊥
+  pub within : (limit : Limit) → IsExceeded q limit → ⊥
   pub family : IsExpoFamily q.universe f
   pub lower : (k : ℕ) → 2 ^ k ≤ cost q.tree q.ending (family_text f k)
 
--- The verdict is right. A degree needs a family as its lower bound and the upper bound for all texts; exponential growth
--- needs a family; and an undecided verdict must name the right limit.
+-- The verdict is right. A degree `d` needs a family that shows the lower bound (`HasDegree`) and the upper bound for all texts
+-- (`IsBounded`). Exponential growth needs a family that shows it (`IsExpo`). An undecided verdict must name the right limit
+-- (`IsNamed`).
 abbrev pub RightVerdict : Question → Verdict → Type 0
 RightVerdict q (Degree d f) = HasDegree q d f × IsBounded q d
 RightVerdict q (Expo f) = IsExpo q f

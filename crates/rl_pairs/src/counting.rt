@@ -15,7 +15,7 @@ use rl_sets::SetWalk;
 use rl_syntax::MOST_COUNTED_SETS;
 use std::alloc::Global;
 
-/// Creates a walk that has only the empty set.
+/// Returns a walk that has only the empty set, with the number 0.
 pub(crate) fn start(alloc: Global, a: &Prio) -> Result<SetWalk, PairsError>
     ensures counting { IfOk result (IsCounting a.now) }
     ensures errors { (limit : ℕ) → IfErr result (IsRightError a.now limit) }
@@ -31,7 +31,8 @@ pub(crate) fn start(alloc: Global, a: &Prio) -> Result<SetWalk, PairsError>
     }
 }
 
-/// Returns the number of the image of a set on a letter.
+/// Returns the number of the image of a set of the walk on a letter or on the end letter. Adds the image to the walk if the
+/// walk doesn't have it; the image must be counted or empty.
 pub(crate) fn image_of(
     walk: &mut SetWalk,
     a: &Prio,
@@ -50,7 +51,8 @@ pub(crate) fn image_of(
     Ok(number)
 }
 
-/// Returns the number of a set with one more member.
+/// Returns the number of a set of the walk with one more member, or of the set itself if `state` is the dead state. Adds the
+/// new set to the walk if the walk doesn't have it; it must be counted or empty.
 pub(crate) fn joined_with(
     walk: &mut SetWalk,
     a: &Prio,
@@ -82,7 +84,7 @@ pub(crate) fn rest_of(walk: &mut SetWalk, a: &Prio, set: u32) -> Result<Option<W
     Ok(rest)
 }
 
-/// Makes the images of a set.
+/// Adds the images of a set on all letters and the end letter to the walk.
 fn close_set(walk: &mut SetWalk, a: &Prio, set: u32) -> Result<(), PairsError>
     requires counting { IsCounting a.now walk.old }
     requires set_in { set < length walk.old.sets }
@@ -100,7 +102,8 @@ fn close_set(walk: &mut SetWalk, a: &Prio, set: u32) -> Result<(), PairsError>
     Ok(())
 }
 
-/// Makes the images of all sets of a walk, including the sets that this adds.
+/// Adds the images of all sets of a walk to it, including the sets that this adds, except that no image is taken of a set with
+/// the accepting state.
 pub(crate) fn close(walk: &mut SetWalk, a: &Prio) -> Result<(), PairsError>
     requires counting { IsCounting a.now walk.old }
     ensures closed { OnOk result (IsClosed a.now walk.new (length walk.new.sets) 0) }

@@ -1,4 +1,6 @@
-//! The reasons why a graph of live pairs isn't made.
+//! The reasons why a graph of live pairs isn't made. A pair is a state of the automaton with a set: the states that were tried
+//! before it. A rest is a list of letters followed by the end letter; a set refuses it if none of its members accepts it. A
+//! live pair is the first pair, or a pair whose set refuses some rest and to which a live pair has a move.
 
 ghost use Rattle.std.specs.Prelude.{◌≡◌};
 
@@ -9,7 +11,8 @@ use std::alloc::{AllocError, AllocFailed};
 /// The reason why there is no graph of live pairs.
 #[derive(Clone, Copy, Debug, PartialEq, Eq)]
 pub enum PairsError {
-    /// There are more than 20,000 counted sets.
+    /// There are more than 20,000 counted sets: sets of the pairs to which live pairs have moves, and images of counted sets
+    /// without the accepting state.
     Sets,
     /// There are more live pairs than the caller allows.
     Pairs,

@@ -7,7 +7,7 @@ ghost use Rattle.rl_sets.specs.Live.{image};
 ghost use Rattle.rl_sets.specs.Walk.{set_at};
 ghost use Rattle.rl_pairs.specs.LivePairs.{next_pairs};
 ghost use Rattle.rl_pairs.specs.internal.Errors.{IsRightError};
-ghost use Rattle.rl_pairs.specs.internal.Counting.{IsCounted, IsCounting, IsOnward, IsNumberOf, Stands};
+ghost use Rattle.rl_pairs.specs.internal.Counting.{IsCounted, IsCounting, IsOnward, IsNumberOf, HasNumber};
 ghost use Rattle.rl_pairs.specs.internal.Finding.{found_of, with_row, first_key, key_at, pair_of, pair_at, lead_at, width, next_of, IsFound, Stays, IsMoved, IsNoted, IsFurther, IsWhole, set_for};
 
 use crate::counting::{close, image_of, joined_with, rest_of};
@@ -31,7 +31,7 @@ pub(crate) struct Key {
 /// The number of pairs for which there is room at first. Many automata have no more live pairs.
 const FIRST_ROOM: usize = 18;
 
-/// Creates a list of one item, with room for more.
+/// Returns a list of one item, with room for `room` items.
 fn begun_with<T: Drop>(alloc: Global, room: usize, item: T) -> Result<Vec<T>, OutOfMemory>
     ensures { IfOk result (λ list. list.items ≡ item ∷ []) }
 {
@@ -40,7 +40,7 @@ fn begun_with<T: Drop>(alloc: Global, room: usize, item: T) -> Result<Vec<T>, Ou
     Ok(list)
 }
 
-/// Returns a set that holds the key of the first pair, with room for more.
+/// Returns a set that holds only the key of the first pair, with room for `FIRST_ROOM` keys.
 fn first_keys(alloc: Global) -> Result<IndexSet<Key>, OutOfMemory>
     ensures { IfOk result (λ keys. keys.keys ≡ first_key ∷ []) }
 {
@@ -66,7 +66,7 @@ pub(crate) struct Finder {
 }
 
 impl Finder {
-    /// Creates a search that has found only the first pair.
+    /// Returns a search that has found only the first pair, with at most `limit` pairs allowed.
     pub(crate) fn new(alloc: Global, a: &Prio, limit: u32) -> Result<Finder, OutOfMemory>
         ensures { IfOk result (λ f. found_of f ≡ record { limit = limit; keys = first_key ∷ []; leads = [] ∷ []; rests = (letters_count a.now ∷ []) ∷ []; rows = [] }) }
     {
@@ -102,7 +102,7 @@ impl Finder {
         Ok(Items::from_vec(letters))
     }
 
-    /// Appends a pair.
+    /// Appends a pair, given by its key, with its lead and its rest. The pair must be new.
     fn add(&mut self, key: Key, lead: Word, rest: Word) -> Result<(), OutOfMemory>
         requires { (k : ℕ) → k < length (found_of self.old).keys → key_at (found_of self.old) k ≢ key }
         ensures { OnOk result (found_of self.new ≡ record { limit = (found_of self.old).limit; keys = (found_of self.old).keys ++ key ∷ []; leads = (found_of self.old).leads ++ lead ∷ []; rests = (found_of self.old).rests ++ rest ∷ []; rows = (found_of self.old).rows }) }
@@ -119,11 +119,12 @@ impl Finder {
         ensures count { result ≡ length (found_of self.now).keys }
         ensures limit { (found_of self.now).limit < 2 ^ 32 }
     {
+        // Reading the limit tells the prover that it fits in 32 bits. The number of pairs is at most the limit.
         let _limit = self.limit;
         self.keys.len() as u32
     }
 
-    /// Appends a row.
+    /// Appends a row of targets.
     fn end_row(&mut self, row: &[u32]) -> Result<(), OutOfMemory>
         ensures { OnOk result (found_of self.new ≡ with_row (found_of self.old) row.now) }
     {
@@ -191,7 +192,8 @@ impl Finder {
         Ok(())
     }
 
-    /// Looks at the moves of a pair on a letter. The contents of `row` are replaced by the targets of these moves.
+    /// Looks at the moves of the pair with the number `from` on a letter: appends the pairs that are found first, and a row of
+    /// the targets. `row` then holds these targets, whatever it held before.
     fn expand_on(
         &mut self,
         a: &Prio,
@@ -209,6 +211,7 @@ impl Finder {
         ensures row { OnOk result (row.new.items ≡ next_of a.now (found_of self.new) from letter) }
         ensures errors { IfErr result (IsRightError a.now (found_of self.old).limit) }
     {
+        // Reading the number of states tells the prover that the automaton is well formed.
         let _states = a.states();
         row.clear();
         let pair = self.keys[from as usize];
@@ -226,8 +229,8 @@ impl Finder {
         Ok(())
     }
 
-    /// Whether a pair has the same moves on a letter as on the letter before it: its state has the same moves, and its set
-    /// has the same image.
+    /// Returns whether the state of a pair has the same moves on a letter as on the letter before it, and its set the same
+    /// image. If so, the pair has the same moves on both letters.
     fn repeats(
         &self,
         a: &Prio,
@@ -241,11 +244,12 @@ impl Finder {
         requires letter_in { letter ≤ letters_count a.now }
         requires later { 0 < letter }
         ensures onward { OnOk result (IsOnward a.now walk.old walk.new) }
-        ensures stands { OnOk result (Stands walk.new (image a.now (pair_at walk.old (found_of self.now) from).set letter)) }
+        ensures stands { OnOk result (HasNumber walk.new (image a.now (pair_at walk.old (found_of self.now) from).set letter)) }
         ensures same { IfOk result (λ same. IsTrue same → next_pairs a.now (pair_at walk.old (found_of self.now) from) (letter - 1)
             ≡ next_pairs a.now (pair_at walk.old (found_of self.now) from) letter) }
         ensures errors { IfErr result (IsRightError a.now (found_of self.now).limit) }
     {
+        // Reading the number of states tells the prover that the automaton is well formed.
         let _states = a.states();
         let pair = self.keys[from as usize];
         let before = image_of(walk, a, pair.set, letter - 1)?;
@@ -303,7 +307,8 @@ impl Finder {
         Ok(())
     }
 
-    /// Finds all live pairs, and makes the images of all sets of the walk.
+    /// Finds all live pairs, and then adds the images of all sets of the walk to it, to find out whether there are too many
+    /// counted sets.
     pub(crate) fn find(&mut self, a: &Prio, walk: &mut SetWalk) -> Result<(), PairsError>
         requires counting { IsCounting a.now walk.old }
         requires found { IsFound a.now walk.old (found_of self.old) }
@@ -322,7 +327,8 @@ impl Finder {
     }
 }
 
-/// Returns the number of the set for the move `k`, given the number of the set for the move before it.
+/// Returns the number of the set for the move `k`, counted from 0: `set` itself for the first move, and otherwise `set`, the
+/// set for the move before, joined with the target of that move.
 fn set_before(
     walk: &mut SetWalk,
     a: &Prio,

@@ -1,4 +1,13 @@
 //! Laws of the graph of live pairs, for all automata and trees. The functions do nothing: what they ensure is what is proved.
+//!
+//! A pair is a state of an automaton with a set: the states that were tried before it on the same text without success. A rest
+//! is a list of letters followed by the end letter; a set refuses it if none of its members accepts it. A live pair is the
+//! first pair, or a pair whose set refuses some rest and to which a live pair has a move. A twin of a pair is two different
+//! paths from it back to itself along one word. A split is two different pairs with paths along one word from the first to
+//! itself, from the first to the second, and from the second to itself. A chain is a list of splits, each with a lead, which
+//! is a word that leads to it from the split before it or from the first pair. A family has heads and pumps: its text for `k`
+//! is the heads in order, with each pump, repeated `k` times, after its head. In the contracts, `next` gives the moves of a
+//! graph, `at` its pairs, and `n` their number.
 
 ghost use Rattle.std.specs.Prelude.{◌≡◌, ℕ, suc, ◌+◌, ◌*◌, ◌^◌, ◌<◌, ◌≤◌, Bool, true, List, [], ◌∷◌, ◌++◌, length, All};
 ghost use Rattle.rl_ranges.specs.Text.{code_count};
@@ -23,7 +32,7 @@ ghost use Rattle.rl_pairs.specs.LivePairs.{LivePair, refused};
 ghost use Rattle.rl_pairs.specs.PairGraph.{IsPairGraph, IsNumbered};
 ghost use Rattle.rl_pairs.specs.Counted.{CountedSet, MoreThan};
 ghost use Rattle.rl_pairs.specs.Families.{Chained, chain_heads, chain_pumps, to_end, Reads, Spells};
-ghost use Rattle.rl_pairs.specs.RightVerdict.{Question, IsMachine, IsPassed, HasDegree, IsExpo, IsBounded, RightVerdict};
+ghost use Rattle.rl_pairs.specs.RightVerdict.{Question, IsMachine, IsExceeded, HasDegree, IsExpo, IsBounded, RightVerdict};
 ghost use Rattle.rl_syntax.specs.declared.limits.TheConstants.{MOST_COUNTED_SETS};
 
 /// The cost is one plus the number of non-empty paths of live pairs along prefixes of the letters and the end letter, such
@@ -124,7 +133,8 @@ pub fn states_are_live_pairs()
 {}
 
 /// A tree has few live pairs for its size. An automaton that stands for the tree has at most `N` live pairs, and a numbered
-/// graph of them has at most `N` states, with at most `K` moves of a state on a letter.
+/// graph of them has at most `N` states, with at most `K` moves of a state on a letter. Here `N` is `bound_n` and `K` is
+/// `bound_k` of the number of the tree's nodes.
 pub fn live_pairs_are_few()
     ensures pairs { (a : Automaton) (t : Tree) (ending : Ending) (sets : List (ℕ → Bool)) → IsAutomaton a → StandsOver a t ending sets
         → MoreThan (bound_n (size t)) (LivePair a) → ⊥ }
@@ -138,32 +148,33 @@ pub fn live_pairs_are_few()
 {}
 
 /// All automata that stand for the same tree and ending over the codes of one universe have the same live pairs and counted
-/// sets. So any of these automata tells whether a limit on them is exceeded, and its graph tells whether the limit on pairs
-/// is.
+/// sets. `pairs` and `sets`: if the limit is exceeded for one of these automata, it is exceeded for each of them. `graph`: if
+/// the graph of live pairs of one of them has at most `max_pairs` states, the limit on pairs isn't exceeded.
 pub fn one_automaton_decides()
-    ensures pairs { (q : Question) (a : Automaton) → IsMachine q a → IsPassed q Limit.Pairs → MoreThan q.max_pairs (LivePair a) }
-    ensures sets { (q : Question) (a : Automaton) → IsMachine q a → IsPassed q Limit.Sets → MoreThan MOST_COUNTED_SETS (CountedSet a) }
+    ensures pairs { (q : Question) (a : Automaton) → IsMachine q a → IsExceeded q Limit.Pairs → MoreThan q.max_pairs (LivePair a) }
+    ensures sets { (q : Question) (a : Automaton) → IsMachine q a → IsExceeded q Limit.Sets → MoreThan MOST_COUNTED_SETS (CountedSet a) }
     ensures graph { (q : Question) (a : Automaton) (next : ℕ → ℕ → List ℕ) (at : ℕ → Pair) (n : ℕ) → IsMachine q a → IsPairGraph a next at n
-        → n ≤ q.max_pairs → IsPassed q Limit.Pairs → ⊥ }
+        → n ≤ q.max_pairs → IsExceeded q Limit.Pairs → ⊥ }
 {}
 
 /// If no limit is exceeded, the family of a twin in the graph of live pairs is right for the verdict of exponential growth.
 pub fn twins_are_exponential()
     ensures { (q : Question) (a : Automaton) (next : ℕ → ℕ → List ℕ) (at : ℕ → Pair) (n : ℕ)
-        → IsMachine q a → IsAutomaton a → IsPairGraph a next at n → ((limit : Limit) → IsPassed q limit → ⊥)
+        → IsMachine q a → IsAutomaton a → IsPairGraph a next at n → ((limit : Limit) → IsExceeded q limit → ⊥)
         → (f : Family) (p : ℕ) (x y last : List ℕ) → Spells a f (x ∷ (last ∷ [])) (y ∷ []) → 1 ≤ paths next 0 p x → 2 ≤ paths next p p y
         → IsRest a (to_end a last) → refused a at p (to_end a last) ≡ true → IsExpo q f }
 {}
 
-/// If no limit is exceeded, the family of a chain of splits that ends on a cycle has a degree of one more than the number of
-/// splits, as far as the lower bound is concerned. Every family of degree 0 has the degree 0.
+/// Let no limit be exceeded. `chains`: the family of a chain of splits that ends on a cycle has the degree `d` in the sense of
+/// `HasDegree`, which is a lower bound; `d` is one more than the number of splits. `flat`: every family of degree 0 has the
+/// degree 0 in this sense.
 pub fn chains_have_degree()
     ensures chains { (q : Question) (a : Automaton) (next : ℕ → ℕ → List ℕ) (at : ℕ → Pair) (n : ℕ)
-        → IsMachine q a → IsAutomaton a → IsPairGraph a next at n → ((limit : Limit) → IsPassed q limit → ⊥)
+        → IsMachine q a → IsAutomaton a → IsPairGraph a next at n → ((limit : Limit) → IsExceeded q limit → ⊥)
         → (f : Family) (links : List Link) (x : List ℕ) (z : ℕ) (y last : List ℕ) → Spells a f (chain_heads links x last) (chain_pumps links y)
         → Chained next 0 links x z → 1 ≤ paths next z z y → 1 ≤ length y
         → IsRest a (to_end a last) → refused a at z (to_end a last) ≡ true → HasDegree q (suc (length links)) f }
-    ensures flat { (q : Question) → ((limit : Limit) → IsPassed q limit → ⊥) → (f : Family) → IsFamily q.universe 0 f → HasDegree q 0 f }
+    ensures flat { (q : Question) → ((limit : Limit) → IsExceeded q limit → ⊥) → (f : Family) → IsFamily q.universe 0 f → HasDegree q 0 f }
 {}
 
 /// Costs are sums of path counts over prefixes, so bounds on paths give bounds on costs. If the number of paths from the

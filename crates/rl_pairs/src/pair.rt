@@ -7,6 +7,6 @@ use rl_lists::Members;
 pub struct Pair {
     /// The state.
     pub state: u32,
-    /// The states that were tried before it, in increasing order.
+    /// The states that were tried before it on the same text, in increasing order.
     pub set: Members,
 }

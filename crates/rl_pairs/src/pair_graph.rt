@@ -1,4 +1,6 @@
-//! Graphs of live pairs.
+//! Graphs of live pairs. A pair is a state of an automaton with a set: the states that were tried before it on the same text
+//! without success. A rest is a list of letters followed by the end letter; a set refuses it if none of its members accepts
+//! it. A live pair is the first pair, or a pair whose set refuses some rest and to which a live pair has a move.
 
 ghost use Rattle.std.specs.Prelude.{◌≡◌, ℕ, ◌+◌, ◌*◌, ◌<◌, ◌≤◌, true, All, length, map, IfOk, IfErr};
 ghost use Rattle.rl_prio.specs.Automaton.{letters_count};
@@ -32,9 +34,13 @@ use std::marker::Model;
 /// and for each letter, in the order of the moves.
 #[derive(Drop)]
 pub struct PairGraph {
+    /// The moves.
     graph: Multigraph,
+    /// The pair with each number.
     pairs: Vec<Pair>,
+    /// For each pair, a word that leads to it from the first pair.
     leads: Vec<Word>,
+    /// For each pair, a rest that its set refuses.
     rests: Vec<Word>,
 }
 
@@ -57,7 +63,7 @@ impl PairGraph {
         &self.graph
     }
 
-    /// Returns the pair with the number `i`.
+    /// Returns the pair with the number `i`, from 0. The graph must have a pair with this number.
     pub fn pair(&self, i: u32) -> &Pair
         requires { i < self.now.graph.states }
         ensures { result.now ≡ pair_in self.now i }
@@ -65,7 +71,8 @@ impl PairGraph {
         &self.pairs[i as usize]
     }
 
-    /// Returns a word that leads from the first pair to the pair with the number `i`.
+    /// Returns a word that leads from the first pair to the pair with the number `i`, as a list of letters. The graph must
+    /// have a pair with this number.
     pub fn lead(&self, i: u32) -> &Word
         requires { i < self.now.graph.states }
         ensures { result.now ≡ lead_in self.now i }
@@ -73,7 +80,8 @@ impl PairGraph {
         &self.leads[i as usize]
     }
 
-    /// Returns a rest that the set of the pair with the number `i` refuses.
+    /// Returns a rest that the set of the pair with the number `i` refuses: a list of letters followed by the end letter that
+    /// no state of the set accepts. The graph must have a pair with this number.
     pub fn rest(&self, i: u32) -> &Word
         requires { i < self.now.graph.states }
         ensures { result.now ≡ rest_in self.now i }
@@ -136,7 +144,8 @@ fn built(
     })
 }
 
-/// Finds all live pairs, and makes the images of all sets of the walk. The walk must begin with the empty set.
+/// Finds all live pairs, at most `max_pairs`, and adds the images of all sets of the walk to it. The walk must begin with the
+/// empty set.
 fn find_all(
     alloc: Global,
     a: &Prio,
@@ -148,6 +157,7 @@ fn find_all(
     ensures whole { IfOk result (λ finder. IsWhole a.now walk.new (found_of finder) max_pairs) }
     ensures errors { IfErr result (IsRightError a.now max_pairs) }
 {
+    // Reading the number of states tells the prover that the automaton is well formed.
     let _states = a.states();
     let mut finder = Finder::new(alloc, a, max_pairs)?;
     match finder.find(a, walk) {
@@ -160,11 +170,13 @@ fn find_all(
 }
 
 /// Builds the graph of the live pairs of an automaton: the product of the automaton with the powerset construction of the
-/// earlier tries, as far as breadth-first search over live sets reaches it.
+/// earlier tries, as far as breadth-first search over live sets reaches it. `max_pairs` must be from 1 to 1,000. The graph has
+/// at most `max_pairs` pairs, with a lead and a rest for each: a word that leads to the pair, and a rest that its set refuses.
 ///
 /// # Errors
 /// [`PairsError::Pairs`] if there are more than `max_pairs` live pairs; [`PairsError::Sets`] if there are more than 20,000
-/// counted sets; [`PairsError::OutOfMemory`] if there is not enough memory for the graph. If either limit is exceeded, no
+/// counted sets, which are the sets of the pairs to which live pairs have moves, and the images of counted sets without the
+/// accepting state; [`PairsError::OutOfMemory`] if there is not enough memory for the graph. If either limit is exceeded, no
 /// graph is returned.
 pub fn pairs(alloc: Global, a: &Prio, max_pairs: u32) -> Result<PairGraph, PairsError>
     requires some { 1 ≤ max_pairs }

@@ -9,7 +9,7 @@ use Rattle.rl_pattern.specs.declared.tree.SyntaxNode.TheFolds.{the_lemmas}
 use Rattle.rl_pattern.specs.internal.Views.{node_of}
 use Rattle.rl_pattern.specs.Tree.{Span, SyntaxNode, leaf, mark, repeat, group, nothing, seq, choice, nodes, branch_body, caret, text_start, dollar, text_end, boundary}
 use Rattle.rl_pattern.specs.internal.Judged.{without_leading, without_trailing, trail_at, both_trails}
-use Rattle.rl_pattern.specs.Found.{Trail, no_trail, dollar_trail, end_trail, drops, is_leading, begins_leading, trail_of, run_of, trailing_run, inner_items, inner_of, listed}
+use Rattle.rl_pattern.specs.Found.{Trail, no_trail, dollar_trail, end_trail, is_some_trail, is_leading, begins_leading, trail_of, run_of, trailing_run, inner_items, inner_of, listed}
 
 pub listed-nodes : (ps : List SyntaxNode) → listed (nodes ps) ≡ ps
 listed-nodes [] = refl
@@ -75,13 +75,13 @@ leading_kept (p ∷ ps) h = sym (ap (λ b. cond b (without_leading ps) (p ∷ ps
 trail_first : {A : Type 0} (f : A → SyntaxNode) (xs ys : List A) (x : A) (trail : Trail) → xs ≡ ys ++ x ∷ [] → trail ≡ trail_at (reverse (map f xs)) → trail ≡ trail_of (f x)
 trail_first f xs ys x trail e h = h ∙ ap trail_at (last_first f xs ys x e)
 
-pub trailing_off : {A : Type 0} (f : A → SyntaxNode) (xs ys : List A) (last : Option A) (trail : Trail) → trail ≡ trail_at (reverse (map f xs)) → drops trail ≡ true → xs ≡ ys ++ option_to_list last → without_trailing (reverse (map f ys)) ≡ without_trailing (reverse (map f xs))
+pub trailing_off : {A : Type 0} (f : A → SyntaxNode) (xs ys : List A) (last : Option A) (trail : Trail) → trail ≡ trail_at (reverse (map f xs)) → is_some_trail trail ≡ true → xs ≡ ys ++ option_to_list last → without_trailing (reverse (map f ys)) ≡ without_trailing (reverse (map f xs))
 trailing_off f xs ys None trail t h e = ap without_trailing (all_left f xs ys e)
 trailing_off f xs ys (Some x) trail t h e =
-    sym (ap without_trailing (last_first f xs ys x e) ∙ ap (λ b. cond b (without_trailing (reverse (map f ys))) (f x ∷ reverse (map f ys))) (sym (ap drops (trail_first f xs ys x trail e t)) ∙ h))
+    sym (ap without_trailing (last_first f xs ys x e) ∙ ap (λ b. cond b (without_trailing (reverse (map f ys))) (f x ∷ reverse (map f ys))) (sym (ap is_some_trail (trail_first f xs ys x trail e t)) ∙ h))
 
 -- What a run of trailing anchors amounts to, combined one after another.
-run_on : (run trail rest : Trail) → drops trail ≡ true → both_trails (both_trails run trail) rest ≡ both_trails run (run_of trail rest)
+run_on : (run trail rest : Trail) → is_some_trail trail ≡ true → both_trails (both_trails run trail) rest ≡ both_trails run (run_of trail rest)
 run_on run no_trail rest h = absurd (false≢true h)
 run_on no_trail dollar_trail rest h = refl
 run_on no_trail end_trail rest h = refl
@@ -92,20 +92,20 @@ run_on dollar_trail end_trail rest h = refl
 run_on end_trail dollar_trail rest h = refl
 run_on end_trail end_trail rest h = refl
 
-pub run_more : {A : Type 0} (f : A → SyntaxNode) (xs ys : List A) (last : Option A) (run trail : Trail) → IsSome last → trail ≡ trail_at (reverse (map f xs)) → drops trail ≡ true → xs ≡ ys ++ option_to_list last → both_trails (both_trails run trail) (trailing_run (reverse (map f ys))) ≡ both_trails run (trailing_run (reverse (map f xs)))
+pub run_more : {A : Type 0} (f : A → SyntaxNode) (xs ys : List A) (last : Option A) (run trail : Trail) → IsSome last → trail ≡ trail_at (reverse (map f xs)) → is_some_trail trail ≡ true → xs ≡ ys ++ option_to_list last → both_trails (both_trails run trail) (trailing_run (reverse (map f ys))) ≡ both_trails run (trailing_run (reverse (map f xs)))
 run_more f xs ys None run trail some t h e = absurd (false≢true some)
 run_more f xs ys (Some x) run trail some t h e =
     run_on run trail (trailing_run (reverse (map f ys))) h
     ∙ ap (λ v. both_trails run (run_of v (trailing_run (reverse (map f ys))))) (trail_first f xs ys x trail e t)
     ∙ sym (ap (λ ps. both_trails run (trailing_run ps)) (last_first f xs ys x e))
 
-pub trail_stands : {A : Type 0} (f : A → SyntaxNode) (xs : List A) (trail : Trail) → trail ≡ trail_at (reverse (map f xs)) → drops trail ≡ true → 0 < length xs
-trail_stands f [] trail t h = absurd (false≢true (sym (ap drops t) ∙ h))
+pub trail_stands : {A : Type 0} (f : A → SyntaxNode) (xs : List A) (trail : Trail) → trail ≡ trail_at (reverse (map f xs)) → is_some_trail trail ≡ true → 0 < length xs
+trail_stands f [] trail t h = absurd (false≢true (sym (ap is_some_trail t) ∙ h))
 trail_stands f (x ∷ xs) trail t h = omega arith
 
 pub trailing_kept : (ps : List SyntaxNode) → trail_at ps ≡ no_trail → ps ≡ without_trailing ps
 trailing_kept [] h = refl
-trailing_kept (p ∷ ps) h = sym (ap (λ t. cond (drops t) (without_trailing ps) (p ∷ ps)) h)
+trailing_kept (p ∷ ps) h = sym (ap (λ t. cond (is_some_trail t) (without_trailing ps) (p ∷ ps)) h)
 
 pub run_ended : (run : Trail) (ps : List SyntaxNode) → trail_at ps ≡ no_trail → run ≡ both_trails run (trailing_run ps)
 run_ended no_trail [] h = refl
@@ -115,7 +115,7 @@ run_ended no_trail (p ∷ ps) h = sym (ap (λ t. run_of t (trailing_run ps)) h)
 run_ended dollar_trail (p ∷ ps) h = sym (ap (λ t. run_of dollar_trail (run_of t (trailing_run ps))) h)
 run_ended end_trail (p ∷ ps) h = refl
 
-pub some_trail : (t : Trail) → t ≢ no_trail → drops t ≡ true
+pub some_trail : (t : Trail) → t ≢ no_trail → is_some_trail t ≡ true
 some_trail no_trail h = absurd (h refl)
 some_trail dollar_trail h = refl
 some_trail end_trail h = refl

@@ -4,7 +4,7 @@ use Rattle.std.proofs.lemmas.Option.{same_Some, none-some, slice_get_within}
 use Rattle.rl_pattern.specs.declared.flags.Flags.{Flags}
 use Rattle.rl_pattern.specs.Tree.{Kind, SyntaxNode, Branch, Front}
 use Rattle.rl_pattern.specs.Codes.{left, inside}
-use Rattle.rl_pattern.specs.Grammar.{At, Stands, Items, outermost}
+use Rattle.rl_pattern.specs.Grammar.{At, SpelledAt, Items, outermost}
 use Rattle.rl_pattern.specs.Viable.{Begins, Part, part_first, part_next, Open, none_open, one_open, TooDeepAt}
 use Rattle.rl_pattern.specs.internal.Machine.{Frame, Last, nothing_yet, Base, Lex, between, line, comment, in_braces, counted, at_slash, in_escape, in_head, set_open, in_class, State, at, settled, InHead, paren, quest, after_p, after_less, group_name, group_name_goes, reference_name, reference_name_goes, asks, asks_digits, asks_name_goes, letters_on, letters_dash, letters_off, run, observe, start}
 use Rattle.rl_pattern.proofs.Steps.{Fair, reads_from, sign_goes}
@@ -187,7 +187,7 @@ pub too_deep_seen : (call : Flags) (text : Bool) (w : List ℕ) (p : ℕ) → To
 too_deep_seen call text w p h = open_behind call text w h.deep.0 h.deep.1 p 100 h.opens h.deep.2
 
 -- Conversely, if no `(?#` or `(?P=` is there, a group is nested too deep.
-pub seen_too_deep : (call : Flags) (text : Bool) (w : List ℕ) (p : ℕ) → Behind call text w p 100 → At text w p 40 → ¬ Stands text w p "(?#" → ¬ Stands text w p "(?P=" → TooDeepAt call text w p
+pub seen_too_deep : (call : Flags) (text : Bool) (w : List ℕ) (p : ℕ) → Behind call text w p 100 → At text w p 40 → ¬ SpelledAt text w p "(?#" → ¬ SpelledAt text w p "(?P=" → TooDeepAt call text w p
 seen_too_deep call text w p h at_p no_r no_f =
     record {
       opens = at_p;

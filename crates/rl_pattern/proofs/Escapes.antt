@@ -4,7 +4,7 @@ use Rattle.std.proofs.lemmas.Bool.{ne_eqb}
 use mathlib.Core.Logic.{inl, inr, ⊎_elim}
 use Rattle.rl_pattern.specs.Tree.{Escaped, by_name, reference}
 use Rattle.rl_pattern.specs.Codes.{with_digit, Numeral, numeral, low_digit, high_digit, no_digit, is_digit, is_some_digit, EscapeClass, slashed, slashed_letter, slashed_digit, is_letter, single, kinds, hexes, naming, octal, low, high, edges, no_escape, octal_code, hex_code}
-use Rattle.rl_pattern.specs.Grammar.{At, Without, no_code, one_code, Hexes, no_hex, one_hex, Octals, no_octal, one_octal, OctalAt, DigitAt, Slash, Three, Refers, Escape, escape_single, escape_kind, escape_hex, escape_name, escape_octal, escape_three, reference_one, reference_two}
+use Rattle.rl_pattern.specs.Grammar.{At, Without, no_code, one_code, Hexes, no_hex, one_hex, Octals, no_octal, one_octal, OctalAt, DigitAt, Slash, ThreeOctals, Refers, Escape, escape_single, escape_kind, escape_hex, escape_name, escape_octal, escape_three, reference_one, reference_two}
 use Rattle.rl_pattern.specs.internal.Machine.{State, stops, goes, ends, InEscape, in_hex, name_brace, name_begins, name_goes, in_octal, after_low, after_high, after_two, escape_first, escape_next, escape_rest, hex_next, octal_next, low_next, high_next, two_next, step_at}
 use Rattle.rl_pattern.proofs.Steps.{reads_from, goes_to, alike_steps}
 
@@ -137,7 +137,7 @@ module _ (text : Bool) (w : List ℕ) {X : Type 0} (ask : ℕ → State → Opti
         go c at_c high_digit z = absurd (no_d (c, at_c, digit_from c high_digit z refl))
         go c at_c no_digit z = ap high_next z
 
-    two_goes : (i d : ℕ) → e ≡ reference → Slash text w in_class i (low d) → DigitAt text w (suc (suc i)) → ¬ Three text w in_class i → From (suc (suc i)) (within (after_low d)) ≡ From (suc (suc (suc i))) (past (suc (suc (suc i))))
+    two_goes : (i d : ℕ) → e ≡ reference → Slash text w in_class i (low d) → DigitAt text w (suc (suc i)) → ¬ ThreeOctals text w in_class i → From (suc (suc i)) (within (after_low d)) ≡ From (suc (suc (suc i))) (past (suc (suc (suc i))))
     two_goes i d q sl (c, at_c, is_d) no_three = go (numeral c) refl
       where
         third : (o : ℕ) → numeral c ≡ low_digit o → (c2 : ℕ) → At text w (suc (suc (suc i))) c2 → (g : Numeral) → numeral c2 ≡ g → two_next (with_digit 8 d o) (numeral c2) ≡ stops
@@ -163,7 +163,7 @@ module _ (text : Bool) (w : List ℕ) {X : Type 0} (ask : ℕ → State → Opti
     refer_one i s q sl (inl (d, z)) no_d = begins_with i s (after_low d) sl (ap escape_first z) ∙ one_goes (suc (suc i)) d q no_d
     refer_one i s q sl (inr z) no_d = begins_with i s after_high sl (ap escape_first z) ∙ high_one (suc (suc i)) q no_d
 
-    refer_two : (i : ℕ) (s : EscapeClass) → e ≡ reference → Slash text w in_class i s → Refers s → DigitAt text w (suc (suc i)) → ¬ Three text w in_class i → From (suc i) behind ≡ From (suc (suc (suc i))) (past (suc (suc (suc i))))
+    refer_two : (i : ℕ) (s : EscapeClass) → e ≡ reference → Slash text w in_class i s → Refers s → DigitAt text w (suc (suc i)) → ¬ ThreeOctals text w in_class i → From (suc i) behind ≡ From (suc (suc (suc i))) (past (suc (suc (suc i))))
     refer_two i s q sl (inl (d, z)) is_d no_three =
         begins_with i s (after_low d) sl (ap escape_first z) ∙ two_goes i d q (subst (λ t. Slash text w in_class i t) z sl) is_d no_three
     refer_two i s q sl (inr z) is_d no_three = begins_with i s after_high sl (ap escape_first z) ∙ high_two (suc (suc i)) q is_d

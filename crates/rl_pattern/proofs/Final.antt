@@ -16,11 +16,11 @@ use Rattle.rl_pattern.specs.declared.parsing.PatError.TheVariants as error
 use Rattle.rl_pattern.specs.Tree.{Span, span, SyntaxNode, leaf, mark, repeat, group, nothing, seq, choice, nodes, Branch, branch_body, branch, whole_body, Whole}
 use Rattle.rl_pattern.specs.Grammar.{IsBranches, first_branch, next_branch, spelled, Spells}
 use Rattle.rl_pattern.specs.internal.Judged.{without_leading, without_trailing}
-use Rattle.rl_pattern.specs.Found.{Inner, is_leading, trail_of, drops, inner_items, items_of, inner_of, inner, front_faults, name_faults, node_names, node_faults, whole_faults}
+use Rattle.rl_pattern.specs.Found.{Inner, is_leading, trail_of, is_some_trail, inner_items, items_of, inner_of, inner, front_faults, name_faults, node_names, node_faults, whole_faults}
 use Rattle.rl_pattern.specs.Shape.{is_text, shape}
 use Rattle.rl_pattern.specs.Parsed.{IsSpelled, IsParsed}
 use Rattle.rl_pattern.specs.Thinned.{kept_from}
-use Rattle.rl_pattern.specs.Cut.{left, gone}
+use Rattle.rl_pattern.specs.Cut.{remaining, gone}
 use Rattle.rl_syntax.specs.SameSpans.{SameSpans}
 use Rattle.rl_pattern.proofs.Merged.{MayMerge}
 use Rattle.rl_pattern.specs.Suggested.{among, no_span, may_go, holds_guard, merged_in, text_of}
@@ -31,7 +31,7 @@ use Rattle.rl_pattern.proofs.Linking.{Good}
 use Rattle.rl_pattern.proofs.Seams.{own_out, Clean, AllClean}
 use Rattle.rl_pattern.proofs.Merging.{merged_same}
 use Rattle.rl_pattern.proofs.Cutting.{stays, Free}
-use Rattle.rl_pattern.specs.Reread.{IsLeft, IsReread}
+use Rattle.rl_pattern.specs.Reread.{IsRemaining, IsReread}
 use Rattle.rl_pattern.proofs.Rereading.{cut_found, cut_reads}
 use Rattle.rl_pattern.proofs.Conditions.{good_of}
 use Rattle.rl_pattern.proofs.Premises.{AllOf, all_back, good_outer, outer_holes, whole_bare}
@@ -118,7 +118,7 @@ module _ (u : Universe) where
     lead_clean (seq r ps) h = absurd (true≢false (sym h))
     lead_clean (choice r bs) h = absurd (true≢false (sym h))
 
-    trail_clean : (p : SyntaxNode) → drops (trail_of p) ≡ true → CleanItem p
+    trail_clean : (p : SyntaxNode) → is_some_trail (trail_of p) ≡ true → CleanItem p
     trail_clean (mark r f m) h = (refl, tt)
     trail_clean (leaf r f x) h = (refl, tt)
     trail_clean (repeat r q n g p) h = absurd (true≢false (sym h))
@@ -140,12 +140,12 @@ module _ (u : Universe) where
     items_each [] h = tt
     items_each (p ∷ ps) (o, c, hs) = ((o, c), items_each ps hs)
 
-    each_clean : (t : Span) (ps : List SyntaxNode) → Good u drop out (branch_body t ps) → MayMerge out (left drop no_span (shape u (branch_body t ps))) → AllOf CleanItem ps
+    each_clean : (t : Span) (ps : List SyntaxNode) → Good u drop out (branch_body t ps) → MayMerge out (remaining drop no_span (shape u (branch_body t ps))) → AllOf CleanItem ps
     each_clean t [] gd h = tt
     each_clean t (p ∷ []) gd h = ((own_false u drop out p h, clean_of u drop out p gd (at_large h)), tt)
     each_clean t (p ∷ q ∷ ps) gd h = items_each (p ∷ q ∷ ps) (items_clean u drop out (nodes (p ∷ q ∷ ps)) gd h)
 
-    clean_outer : (r t : Span) (p : SyntaxNode) (o : Option (List SyntaxNode)) → ((ps : List SyntaxNode) → o ≡ Some ps → p ≡ branch_body r ps) → Good u drop out (inner_of t p o).body → MayMerge out (left drop no_span (shape u (inner_of t p o).body)) → Clean u drop out p
+    clean_outer : (r t : Span) (p : SyntaxNode) (o : Option (List SyntaxNode)) → ((ps : List SyntaxNode) → o ≡ Some ps → p ≡ branch_body r ps) → Good u drop out (inner_of t p o).body → MayMerge out (remaining drop no_span (shape u (inner_of t p o).body)) → Clean u drop out p
     clean_outer r t p None f gd h = clean_of u drop out p gd (at_large h)
     clean_outer r t p (Some ps) f gd h = subst (Clean u drop out) (sym (f ps refl)) (body_clean r ps (all_back CleanItem lead_clean trail_clean ps (each_clean t (inner_items ps) gd h)))
 
@@ -154,13 +154,13 @@ module _ (flags : Flags) (u : Universe) (w : List ℕ) (found : Pattern) (whole 
   D = among dropped
 
   abbrev kept : PatTree
-  kept = left (among dropped) no_span (body_of found)
+  kept = remaining (among dropped) no_span (body_of found)
 
   abbrev merged : List Span
-  merged = merged_in (left (among dropped) no_span (body_of found))
+  merged = merged_in (remaining (among dropped) no_span (body_of found))
 
   abbrev O : Span → Bool
-  O = among (merged_in (left (among dropped) no_span (body_of found)))
+  O = among (merged_in (remaining (among dropped) no_span (body_of found)))
 
   abbrev I : Inner
   I = inner whole
@@ -184,7 +184,7 @@ module _ (flags : Flags) (u : Universe) (w : List ℕ) (found : Pattern) (whole 
   good = good_outer u D O whole.place whole.place whole.body (items_of whole.body) refl (one_body (is_text u) w flags whole sp.read.spelled) inner_good
 
   clean : Clean u D O whole.body
-  clean = clean_outer u D O whole.place whole.place whole.body (items_of whole.body) (one_body (is_text u) w flags whole sp.read.spelled) inner_good (subst (λ t. MayMerge O (left D no_span t)) sp.pattern.body merges)
+  clean = clean_outer u D O whole.place whole.place whole.body (items_of whole.body) (one_body (is_text u) w flags whole sp.read.spelled) inner_good (subst (λ t. MayMerge O (remaining D no_span t)) sp.pattern.body merges)
 
   free : Free u D O flags w whole
   free = ⊎_elim (λ (z : holds_guard (body_of found) ≡ true). inl (λ x. ap (λ ds. among ds x) (guarded z))) (λ (z : holds_guard (body_of found) ≡ false). inr (λ none bs e. whole_bare u D O whole.place bs (ap (λ p. holds_guard (shape u p)) (sym e) ∙ ap (λ (o : Option (List SyntaxNode)). holds_guard (shape u (inner_of whole.place whole.body o).body)) (sym none) ∙ sym (ap holds_guard sp.pattern.body) ∙ z))) (cases_Bool (holds_guard (body_of found)))
@@ -195,25 +195,25 @@ module _ (flags : Flags) (u : Universe) (w : List ℕ) (found : Pattern) (whole 
       λ i. kept_from (λ t. not (holes t i)) 0 w
 
   -- There is a pattern that the text is read as.
-  pub suggested_found : (new : Pattern) × IsParsed flags u (text_of (body_of found) dropped merged w) (Ok new) × IsLeft D O found new
+  pub suggested_found : (new : Pattern) × IsParsed flags u (text_of (body_of found) dropped merged w) (Ok new) × IsRemaining D O found new
   suggested_found =
-      let h : (new : Pattern) × IsParsed flags u (kept_from (stays u D O whole.body) 0 w) (Ok new) × IsLeft D O found new = cut_found u flags D O w found whole sp good clean free in
+      let h : (new : Pattern) × IsParsed flags u (kept_from (stays u D O whole.body) 0 w) (Ok new) × IsRemaining D O found new = cut_found u flags D O w found whole sp good clean free in
       (h.0, subst (λ v. IsParsed flags u v (Ok h.0)) (sym same_codes) h.1, h.2)
 
   -- Whatever the result of parsing the text is.
-  pub suggested_reads : (r : Result Pattern PatError) → IsParsed flags u (text_of (body_of found) dropped merged w) r → (r ≡ Err error.OutOfMemory) ⊎ ((new : Pattern) × (r ≡ Ok new) × IsLeft D O found new)
+  pub suggested_reads : (r : Result Pattern PatError) → IsParsed flags u (text_of (body_of found) dropped merged w) r → (r ≡ Err error.OutOfMemory) ⊎ ((new : Pattern) × (r ≡ Ok new) × IsRemaining D O found new)
   suggested_reads r h = cut_reads u flags D O w found whole sp good clean free r (subst (λ v. IsParsed flags u v r) same_codes h)
 
   -- The removed quantifiers change no span.
-  pub merged_spans : SameSpans (lowered (left D O (body_of found))) (lowered kept)
+  pub merged_spans : SameSpans (lowered (remaining D O (body_of found))) (lowered kept)
   merged_spans = subst (λ t. SameSpans (lowered t) (lowered kept)) (left_twice D O (body_of found)) (merged_same O kept merges)
 
 -- The same, for a pattern that was parsed from codes.
-pub right_text_found : (flags : Flags) (u : Universe) (w : List ℕ) (found : Pattern) (dropped : List Span) → IsParsed flags u w (Ok found) → may_go (among dropped) (body_of found) ≡ true → (holds_guard (body_of found) ≡ true → dropped ≡ []) → (new : Pattern) × IsParsed flags u (text_of (body_of found) dropped (merged_in (left (among dropped) no_span (body_of found))) w) (Ok new) × IsLeft (among dropped) (among (merged_in (left (among dropped) no_span (body_of found)))) found new
+pub right_text_found : (flags : Flags) (u : Universe) (w : List ℕ) (found : Pattern) (dropped : List Span) → IsParsed flags u w (Ok found) → may_go (among dropped) (body_of found) ≡ true → (holds_guard (body_of found) ≡ true → dropped ≡ []) → (new : Pattern) × IsParsed flags u (text_of (body_of found) dropped (merged_in (remaining (among dropped) no_span (body_of found))) w) (Ok new) × IsRemaining (among dropped) (among (merged_in (remaining (among dropped) no_span (body_of found)))) found new
 right_text_found flags u w found dropped (whole, sp) may guarded = suggested_found flags u w found whole sp dropped may guarded
 
-pub right_text_reads : (flags : Flags) (u : Universe) (w : List ℕ) (found : Pattern) (dropped : List Span) → IsParsed flags u w (Ok found) → may_go (among dropped) (body_of found) ≡ true → (holds_guard (body_of found) ≡ true → dropped ≡ []) → (r : Result Pattern PatError) → IsParsed flags u (text_of (body_of found) dropped (merged_in (left (among dropped) no_span (body_of found))) w) r → IsReread (among dropped) (among (merged_in (left (among dropped) no_span (body_of found)))) found r
+pub right_text_reads : (flags : Flags) (u : Universe) (w : List ℕ) (found : Pattern) (dropped : List Span) → IsParsed flags u w (Ok found) → may_go (among dropped) (body_of found) ≡ true → (holds_guard (body_of found) ≡ true → dropped ≡ []) → (r : Result Pattern PatError) → IsParsed flags u (text_of (body_of found) dropped (merged_in (remaining (among dropped) no_span (body_of found))) w) r → IsReread (among dropped) (among (merged_in (remaining (among dropped) no_span (body_of found)))) found r
 right_text_reads flags u w found dropped (whole, sp) may guarded r h = suggested_reads flags u w found whole sp dropped may guarded r h
 
-pub right_text_spans : (flags : Flags) (u : Universe) (w : List ℕ) (found : Pattern) (dropped : List Span) → IsParsed flags u w (Ok found) → may_go (among dropped) (body_of found) ≡ true → (holds_guard (body_of found) ≡ true → dropped ≡ []) → SameSpans (lowered (left (among dropped) (among (merged_in (left (among dropped) no_span (body_of found)))) (body_of found))) (lowered (left (among dropped) no_span (body_of found)))
+pub right_text_spans : (flags : Flags) (u : Universe) (w : List ℕ) (found : Pattern) (dropped : List Span) → IsParsed flags u w (Ok found) → may_go (among dropped) (body_of found) ≡ true → (holds_guard (body_of found) ≡ true → dropped ≡ []) → SameSpans (lowered (remaining (among dropped) (among (merged_in (remaining (among dropped) no_span (body_of found)))) (body_of found))) (lowered (remaining (among dropped) no_span (body_of found)))
 right_text_spans flags u w found dropped (whole, sp) may guarded = merged_spans flags u w found whole sp dropped may guarded

@@ -5,8 +5,8 @@ use Rattle.std.proofs.lemmas.Bool.Decides.{nat_tests}
 use Rattle.rl_pattern.specs.declared.flags.Flags.{Flags}
 use Rattle.rl_pattern.specs.Tree.{Kind, capturing, named, scoped, lookaround, atomic, conditional, glyph, reference}
 use Rattle.rl_pattern.specs.Codes.{numeral, is_digit, begins_name, goes_in_name, GroupPrefix, headed, letter, colon, minus, letter_p, sharps, less, greater, condition, looks, on_letter, off_letter, no_flags, with_letter}
-use Rattle.rl_pattern.specs.Grammar.{At, Name, first_code, next_code, Digits, one_digit, next_digit, Letters, first_letter, next_letter, Stands, Opening, captures, captures_named, groups, groups_on, groups_both, groups_off, looks_ahead, looks_behind, cuts, asks_number, asks_name, FlagGroup, flag_group, Without, no_code, one_code}
-use Rattle.rl_pattern.specs.internal.Machine.{State, Base, at, between, comment, stops, goes, ends, InHead, paren, quest, after_p, after_less, group_name, group_name_goes, reference_name, reference_name_goes, asks, asks_digits, asks_name_goes, letters_on, letters_dash, letters_off, GroupStart, begins_group, begins_comment, is_reference, is_front, quest_next, behind_next, head_step, head_answer, in_head, begin, open_group, put_leaf, put_front}
+use Rattle.rl_pattern.specs.Grammar.{At, Name, first_code, next_code, Digits, one_digit, next_digit, Letters, first_letter, next_letter, SpelledAt, Opening, captures, captures_named, groups, groups_on, groups_both, groups_off, looks_ahead, looks_behind, cuts, asks_number, asks_name, FlagGroup, flag_group, Without, no_code, one_code}
+use Rattle.rl_pattern.specs.internal.Machine.{State, Base, at, between, comment, stops, goes, ends, InHead, paren, quest, after_p, after_less, group_name, group_name_goes, reference_name, reference_name_goes, asks, asks_digits, asks_name_goes, letters_on, letters_dash, letters_off, GroupStart, begins_group, begins_comment, is_reference, is_front, quest_next, after_less_next, head_step, head_answer, in_head, begin, open_group, put_leaf, put_front}
 use Rattle.rl_pattern.proofs.Steps.{reads_from, goes_to, same_step, differs}
 
 name_not : (text : Bool) → (goes_in_name text 62 ≡ false) × (goes_in_name text 41 ≡ false)
@@ -108,7 +108,7 @@ module _ (text : Bool) (w : List ℕ) {X : Type 0} (ask : ℕ → State → Opti
       asked at_q ∙ (by_head (suc (suc a)) 45 minus (letters_dash no_flags) at_minus heads.1 refl ∙ off_go no_flags ms ∙ off k 58 (letters_off no_flags g) (begins_group (scoped no_flags g)) _ at_end refl refl)
   opening_goes (looks_ahead {c = c} (at_a, at_q) at_c h) = asked at_q ∙ (by_head_ends (suc (suc a)) c looks (begins_group lookaround) _ at_c h refl refl)
   opening_goes (looks_behind {c = c} (at_a, (at_q, at_less)) at_c h) =
-      asked at_q ∙ (by_head (suc (suc a)) 60 less after_less at_less heads.4 refl ∙ off (suc (suc (suc a))) c after_less (begins_group lookaround) _ at_c (ap behind_next h) refl)
+      asked at_q ∙ (by_head (suc (suc a)) 60 less after_less at_less heads.4 refl ∙ off (suc (suc (suc a))) c after_less (begins_group lookaround) _ at_c (ap after_less_next h) refl)
   opening_goes (cuts (at_a, (at_q, at_c))) = asked at_q ∙ (by_head_ends (suc (suc a)) 62 greater (begins_group atomic) _ at_c heads.5 refl refl)
   opening_goes (asks_number {j = j} (at_a, (at_q, at_c)) ds at_end) =
       asked at_q ∙ (by_head (suc (suc a)) 40 condition asks at_c heads.6 refl ∙ digits_go_on ds ∙ off j 41 asks_digits (begins_group conditional) _ at_end refl refl)
@@ -116,7 +116,7 @@ module _ (text : Bool) (w : List ℕ) {X : Type 0} (ask : ℕ → State → Opti
       asked at_q ∙ (by_head (suc (suc a)) 40 condition asks at_c heads.6 refl ∙ asks_goes_on name ∙ off j 41 asks_name_goes (begins_group conditional) _ at_end refl refl)
 
   -- A reference to a named group.
-  pub reference_goes : {j : ℕ} {n : List ℕ} → Stands text w a "(?P=" → Name text w (suc (suc (suc (suc a)))) j n → At text w j 41 → reads_from text w ask (suc a) (at b (in_head a paren)) ≡ reads_from text w ask (suc j) (at (put_leaf b a (suc j) (glyph reference)) between)
+  pub reference_goes : {j : ℕ} {n : List ℕ} → SpelledAt text w a "(?P=" → Name text w (suc (suc (suc (suc a)))) j n → At text w j 41 → reads_from text w ask (suc a) (at b (in_head a paren)) ≡ reads_from text w ask (suc j) (at (put_leaf b a (suc j) (glyph reference)) between)
   reference_goes {j} (at_a, (at_q, (at_p, at_is))) name at_end =
       asked at_q ∙ (by_head (suc (suc a)) 80 letter_p after_p at_p heads.2 refl ∙ on (suc (suc (suc a))) 61 after_p reference_name at_is refl ∙ reference_goes_on name ∙ off j 41 reference_name_goes is_reference _ at_end refl refl)
 
@@ -125,7 +125,7 @@ module _ (text : Bool) (w : List ℕ) {X : Type 0} (ask : ℕ → State → Opti
   comment_goes_on no_code = refl
   comment_goes_on (one_code {j = j} {c = c} h at_c ne) = comment_goes_on h ∙ goes_to text w ask j c _ _ at_c (ap (λ t. cond t (Some (at b between)) (Some (at b comment))) (ne_eqb c 41 ne))
 
-  pub comment_goes : {j : ℕ} → Stands text w a "(?#" → Without text w 41 (suc (suc (suc a))) j → At text w j 41 → reads_from text w ask (suc a) (at b (in_head a paren)) ≡ reads_from text w ask (suc j) (at b between)
+  pub comment_goes : {j : ℕ} → SpelledAt text w a "(?#" → Without text w 41 (suc (suc (suc a))) j → At text w j 41 → reads_from text w ask (suc a) (at b (in_head a paren)) ≡ reads_from text w ask (suc j) (at b between)
   comment_goes {j} (at_a, (at_q, at_c)) h at_end =
       asked at_q ∙ (by_head_ends (suc (suc a)) 35 sharps begins_comment _ at_c heads.3 refl refl ∙ comment_goes_on h ∙ goes_to text w ask j 41 _ _ at_end refl)
 

@@ -5,7 +5,7 @@ use Rattle.std.proofs.lemmas.Option.{same_Some}
 use mathlib.Core.Logic.{inl, inr}
 use Rattle.rl_pattern.specs.Tree.{Escaped, by_name, reference}
 use Rattle.rl_pattern.specs.Codes.{with_digit, Numeral, numeral, low_digit, high_digit, no_digit, is_digit, hex, EscapeClass, slashed, single, kinds, hexes, naming, octal, low, high, edges, no_escape, octal_code, hex_code}
-use Rattle.rl_pattern.specs.Grammar.{At, Without, no_code, one_code, Hexes, no_hex, one_hex, Octals, no_octal, one_octal, OctalAt, DigitAt, Slash, Three, Escape, escape_single, escape_kind, escape_hex, escape_name, escape_octal, escape_three, reference_one, reference_two}
+use Rattle.rl_pattern.specs.Grammar.{At, Without, no_code, one_code, Hexes, no_hex, one_hex, Octals, no_octal, one_octal, OctalAt, DigitAt, Slash, ThreeOctals, Escape, escape_single, escape_kind, escape_hex, escape_name, escape_octal, escape_three, reference_one, reference_two}
 use Rattle.rl_pattern.specs.internal.Machine.{Answer, stops, goes, ends, InEscape, in_hex, name_brace, name_begins, name_goes, in_octal, after_low, after_high, after_two, escape_first, escape_next, escape_rest, hex_next, octal_next, low_next, high_next, two_next}
 use Rattle.rl_pattern.proofs.Steps.{same_code}
 use Rattle.rl_pattern.proofs.Escapes.{digit_from, digit_false, hexes_pos}
@@ -83,7 +83,7 @@ module _ (text : Bool) (w : List ℕ) where
     high_pair : (k c : ℕ) → is_digit c ≡ true → Slash text w in_class i high → k ≡ suc (suc i) → At text w k c → Escape text w in_class i (suc k) reference
     high_pair k c is h e at_c = subst (λ m. Escape text w in_class i (suc m) reference) (sym e) (reference_two h (inr refl) (c, subst (λ m. At text w m c) e at_c, is) no_three)
       where
-        no_three : ¬ Three text w in_class i
+        no_three : ¬ ThreeOctals text w in_class i
         no_three (d, v, (c2, back, at_c2, is2), os) = absurd (cc (h.3, is2, ap (slashed text in_class) (same_code w (suc i) h.0 c2 h.2 at_c2)))
 
     high_kept : (k c : ℕ) (g : Numeral) → numeral c ≡ g → EscapeOk in_class after_high i k → At text w k c → Kept (suc k) (high_next g)

@@ -11,7 +11,7 @@ use Rattle.rl_pattern.specs.Tree.{Span, Count, Greed, Escaped, code, too_large, 
 use Rattle.rl_pattern.specs.internal.LeafSets.{some_member}
 use Rattle.rl_pattern.specs.Found.{is_bound, Feature, fault_if, escaped_faults, member_faults, leaf_faults, count_faults, kind_faults, node_faults, nodes_faults, branches_faults, Called, node_names, nodes_names, branches_names, is_leading, trail_of, reversed, is_possessive, overlap, is_locale, is_flag_clash, is_repeat_too_large, is_repeat_order, is_possessive_count, is_reversed_range}
 use Rattle.rl_pattern.specs.Shape.{is_text, shape, shapes, branch_shapes, leaf_codes, within, code_member, kind_member, members_hold, closing}
-use Rattle.rl_pattern.specs.Cut.{choice_of, left, left_items, left_branches}
+use Rattle.rl_pattern.specs.Cut.{choice_of, remaining, remaining_items, remaining_branches}
 use Rattle.rl_pattern.specs.internal.Left.{moved_member, moved_leaf}
 use Rattle.rl_pattern.proofs.Holes.{drops_in}
 use Rattle.rl_pattern.proofs.InnerBare.{is_item, AllItems}
@@ -128,7 +128,7 @@ module _ (u : Universe) (drop out : Span → Bool) where
   tree p = lowered (shape u p)
 
   abbrev pub left_tree : SyntaxNode → y.Tree
-  left_tree p = lowered (left drop out (shape u p))
+  left_tree p = lowered (remaining drop out (shape u p))
 
   -- The second node is what is left of the first: it has the same tree and no fault, and the same groups have names.
   pub record Leaves (p q : SyntaxNode) : Type 0 where
@@ -151,7 +151,7 @@ module _ (u : Universe) (drop out : Span → Bool) where
   all_snoc all_none h e = all_more h e all_none
   all_snoc (all_more a b hs) h e = all_more a b (all_snoc hs h e)
 
-  items_same : {ps qs : List SyntaxNode} → LeavesAll ps qs → items_lowered (s.items_of (shapes u (nodes qs))) ≡ items_lowered (left_items drop out (s.items_of (shapes u (nodes ps))))
+  items_same : {ps qs : List SyntaxNode} → LeavesAll ps qs → items_lowered (s.items_of (shapes u (nodes qs))) ≡ items_lowered (remaining_items drop out (s.items_of (shapes u (nodes ps))))
   items_same all_none = refl
   items_same (all_more {p = p} {q = q} {qs = qs} h e hs) = ap (λ t. t ∷ items_lowered (s.items_of (shapes u (nodes qs)))) h.same ∙ ap (λ ts. left_tree p ∷ ts) (items_same hs)
 
@@ -212,14 +212,14 @@ module _ (u : Universe) (drop out : Span → Bool) where
   choice_of_tree r (s.branch a p s.no_branches) = refl
   choice_of_tree r (s.branch a p (s.branch b q bs)) = refl
 
-  left_trees : {bs cs : List Branch} → LeavesSome drop bs cs → branches_lowered (left_branches drop out (s.branches_of (branch_shapes u (branches bs)))) ≡ trees cs
+  left_trees : {bs cs : List Branch} → LeavesSome drop bs cs → branches_lowered (remaining_branches drop out (s.branches_of (branch_shapes u (branches bs)))) ≡ trees cs
   left_trees some_none = refl
   left_trees (some_stays {r = r} {t = t} {ps = ps} {qs = qs} {bs = bs} {cs = cs} e i h hs) =
-      let rest = left_branches drop out (s.branches_of (branch_shapes u (branches bs))) in
-      ap (λ z. branches_lowered (if z then rest else s.branch r (left drop out (shape u (branch_body r ps))) rest)) e ∙ ap (λ z. z ∷ branches_lowered rest) (sym (body_leaves r t h).same) ∙ ap (λ z. tree (branch_body t qs) ∷ z) (left_trees hs)
+      let rest = remaining_branches drop out (s.branches_of (branch_shapes u (branches bs))) in
+      ap (λ z. branches_lowered (if z then rest else s.branch r (remaining drop out (shape u (branch_body r ps))) rest)) e ∙ ap (λ z. z ∷ branches_lowered rest) (sym (body_leaves r t h).same) ∙ ap (λ z. tree (branch_body t qs) ∷ z) (left_trees hs)
   left_trees (some_goes {b = b} {bs = bs} {cs = cs} e h hs) =
-      let rest = left_branches drop out (s.branches_of (branch_shapes u (branches bs))) in
-      ap (λ z. branches_lowered (if z then rest else s.branch b.place (left drop out (shape u b.body)) rest)) e ∙ left_trees hs
+      let rest = remaining_branches drop out (s.branches_of (branch_shapes u (branches bs))) in
+      ap (λ z. branches_lowered (if z then rest else s.branch b.place (remaining drop out (shape u b.body)) rest)) e ∙ left_trees hs
 
   some_faultless : {d : Span → Bool} {bs cs : List Branch} → LeavesSome d bs cs → branches_faults (is_text u) (branches bs) ≡ [] → branches_faults (is_text u) (branches cs) ≡ []
   some_faultless some_none fine = refl
@@ -269,7 +269,7 @@ module _ (u : Universe) (drop out : Span → Bool) where
   whole_leaves r t (b ∷ []) cs h = one_leaves r t b h
   whole_leaves r t (b ∷ b2 ∷ bs) cs h =
       record {
-        same = whole_tree t cs ∙ sym (choice_of_tree r (left_branches drop out (s.branches_of (branch_shapes u (branches (b ∷ b2 ∷ bs))))) ∙ ap one_of (left_trees h));
+        same = whole_tree t cs ∙ sym (choice_of_tree r (remaining_branches drop out (s.branches_of (branch_shapes u (branches (b ∷ b2 ∷ bs))))) ∙ ap one_of (left_trees h));
         faultless = λ fine. whole_faultless t cs (some_faultless h fine);
         names = whole_names t cs ∙ some_names h;
         nested = λ n x. some_nested h n (whole_nested t cs n x);

@@ -13,7 +13,7 @@ use Rattle.rl_pattern.specs.Codes.{splits}
 use Rattle.rl_pattern.specs.Found.{is_inner_anchor, is_leading, trail_of, no_trail, mark_faults, count_faults, kind_faults, node_faults, kind_names, node_names}
 use Rattle.rl_pattern.specs.Grammar.{At, Quantifier, Blanks, no_blank, one_blank, Atom, literal, literal_brace, dotted, escaped, refers, bracketed, grouped, Item, once, repeated, edge_code, edge_escape, Items, no_items, pass_over, one_item, IsBranches, first_branch, next_branch}
 use Rattle.rl_pattern.specs.Shape.{is_text, shape, group_shape, mark_shape, is_greedy}
-use Rattle.rl_pattern.specs.Cut.{lies_in, in_dropped, left, gone}
+use Rattle.rl_pattern.specs.Cut.{lies_in, in_dropped, remaining, gone}
 use Rattle.rl_pattern.specs.internal.Left.{moved, moved_span, AllKept, AllGone, LeftAtom, left_leaf, left_group, left_once, left_repeat, left_mark, LeftItems, left_none, left_passed, left_item, left_unmarked, LeftBranches, left_first, left_next, left_gone}
 use Rattle.rl_pattern.proofs.Tokens.{blanks_le, quantifier_lt, passed_lt, opening_lt}
 use Rattle.rl_pattern.proofs.Locality.{atom_lt, item_lt, items_le, branches_le}
@@ -131,7 +131,7 @@ module _ (u : Universe) (drop out : Span → Bool) where
     pub splits_on : (bs : List Branch) → splits kd bs ≡ true
     pub holes_of : (r : Span) (q : s.PatTree) (t : ℕ) → gone drop out (group_shape r kd q) t ≡ gone drop out q t
     pub tree_of : (r : Span) (q : s.PatTree) → lowered (group_shape r kd q) ≡ lowered q
-    pub left_of : (r : Span) (q : s.PatTree) → lowered (left drop out (group_shape r kd q)) ≡ lowered (left drop out q)
+    pub left_of : (r : Span) (q : s.PatTree) → lowered (remaining drop out (group_shape r kd q)) ≡ lowered (remaining drop out q)
 
   pub plain_kind : (kd : Kind) → is_plain kd ≡ true → Plain kd
   plain_kind capturing h = record { splits_on = λ bs. refl; holes_of = λ r q t. refl; tree_of = λ r q. refl; left_of = λ r q. refl }
@@ -219,7 +219,7 @@ module _ (u : Universe) (drop out : Span → Bool) where
     blanks_left (one_blank {j = m} bl p) k l =
         left_passed (blanks_left bl (λ t a b. k t a (omega (arith, b, passed_lt (is_text u) w p))) l) p (λ t a b. k t (omega (arith, a, blanks_le (is_text u) w bl)) b)
 
-    mark_tree : (r t : Span) (f : Flags) (m : Assertion) → lowered (mark_shape u t f m) ≡ lowered (left drop out (mark_shape u r f m))
+    mark_tree : (r t : Span) (f : Flags) (m : Assertion) → lowered (mark_shape u t f m) ≡ lowered (remaining drop out (mark_shape u r f m))
     mark_tree r t f caret = refl
     mark_tree r t f text_start = refl
     mark_tree r t f dollar = refl
@@ -300,8 +300,8 @@ module _ (u : Universe) (drop out : Span → Bool) where
         between : AllKept (is_text u) w kept g j k
         between = all_kept f j k (λ t x z e. ⊎_elim (λ (y : (out (span k l) && lies_in k l t) ≡ true). omega (arith, z, (lies_from k l t (and_second (out (span k l)) (lies_in k l t) y)).0)) (λ (y : hole_in p t ≡ true). omega (arith, x, (atom_within u drop out w a t y).1)) (or_cases (out (span k l) && lies_in k l t) (hole_in p t) e)) (agree_part f j k (omega (arith, lt0)) (omega (arith, lt)) ag)
 
-        same_out : (b : Bool) → out (span k l) ≡ b → left_tree u drop out (repeat (span i l) (span k l) n r p) ≡ lowered (if b then left drop out (shape u p) else s.repeat (span i l) (span k l) n.least n.most (is_greedy r) (left drop out (shape u p)))
-        same_out b e = ap (λ z. lowered (if z then left drop out (shape u p) else s.repeat (span i l) (span k l) n.least n.most (is_greedy r) (left drop out (shape u p)))) e
+        same_out : (b : Bool) → out (span k l) ≡ b → left_tree u drop out (repeat (span i l) (span k l) n r p) ≡ lowered (if b then remaining drop out (shape u p) else s.repeat (span i l) (span k l) n.least n.most (is_greedy r) (remaining drop out (shape u p)))
+        same_out b e = ap (λ z. lowered (if z then remaining drop out (shape u p) else s.repeat (span i l) (span k l) n.least n.most (is_greedy r) (remaining drop out (shape u p)))) e
 
         go : (b : Bool) → out (span k l) ≡ b → ItemLinks fl i l (repeat (span i l) (span k l) n r p)
         go true e =

@@ -7,7 +7,7 @@ use Rattle.rl_syntax.specs.Pattern.{body_of}
 use Rattle.rl_syntax.specs.PatTree.{PatTree, PatTrees, BranchTrees, nothing, class, seq, choice, repeat, group, anchor, boundary, outside, no_items, item, no_branches, branch}
 use Rattle.rl_pattern.specs.declared.flags.Flags.{Flags}
 use Rattle.rl_pattern.specs.Parsed.{is_text, IsParsed}
-use Rattle.rl_pattern.specs.Cut.{left}
+use Rattle.rl_pattern.specs.Cut.{remaining}
 use Rattle.rl_pattern.specs.Suggested.{among, no_span, holds_capture, is_allowed, branches_in, items_branches, choice_branches, merged_in, items_merged, branches_merged, under, merged_at, inside}
 use Rattle.rl_pattern.specs.Placed.{ArePlaced}
 use Rattle.rl_pattern.proofs.Marks.{Placed, PlacedItems, PlacedBranches, placed_le, items_le, branches_le, left_placed, own_last}
@@ -96,8 +96,8 @@ module _ (flags : Flags) (u : Universe) (w : List ℕ) (found : Pattern) where
       let at_i = in_codes h in
       rising_placed (branches_in (body_of found)) at_i.0 (length w) (branches_rise (body_of found) at_i.0 (length w) at_i.1)
 
-  pub merged_are_placed : (dropped : List Span) → IsParsed flags u w (Ok found) → ArePlaced (length w) (merged_in (left (among dropped) no_span (body_of found)))
+  pub merged_are_placed : (dropped : List Span) → IsParsed flags u w (Ok found) → ArePlaced (length w) (merged_in (remaining (among dropped) no_span (body_of found)))
   merged_are_placed dropped h =
       let at_i = in_codes h in
-      let kept = left (among dropped) no_span (body_of found) in
+      let kept = remaining (among dropped) no_span (body_of found) in
       rising_placed (merged_in kept) at_i.0 (length w) (merged_rise kept at_i.0 (length w) (left_placed (among dropped) (body_of found) at_i.0 (length w) at_i.1))

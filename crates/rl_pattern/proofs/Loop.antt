@@ -12,7 +12,7 @@ use Rattle.rl_pattern.specs.declared.read.ReadError.{ReadError}
 use Rattle.rl_pattern.specs.declared.read.ReadError.TheVariants.{Syntax, TooDeep, OutOfMemory}
 use Rattle.rl_pattern.specs.internal.Views.{FitsAt, whole_of}
 use Rattle.rl_pattern.specs.Answers.{Shallow}
-use Rattle.rl_pattern.specs.internal.Answering.{Went, Ended, Answered, is_code, opens_none, at_paren, is_too_deep, Standing}
+use Rattle.rl_pattern.specs.internal.Answering.{Went, Ended, Answered, is_code, opens_none, at_paren, is_too_deep, HasRead}
 use Rattle.rl_pattern.specs.internal.Machine.{InHead, paren, quest, after_p, after_less, group_name, group_name_goes, reference_name, reference_name_goes, asks, asks_digits, asks_name_goes, letters_on, letters_dash, letters_off, Lex, between, line, comment, in_braces, counted, at_slash, in_escape, in_head, set_open, in_class, State, behind_paren, step_at, run, finish_at, start}
 use Rattle.rl_pattern.proofs.Reading.{text_length}
 use Rattle.rl_pattern.proofs.Sound.{LexOk, StateOk, read_is_spelled}
@@ -87,7 +87,7 @@ taken_at (x ∷ w) (suc n) zero c h = h
 taken_at (x ∷ w) (suc n) (suc i) c h = taken_at w n i c h
 
 module _ (call : Flags) (text : Bool) (w : List ℕ) where
-  pub stand_start : Standing call text w 0 (start call)
+  pub stand_start : HasRead call text w 0 (start call)
   stand_start = record { runs = refl; shallow = λ q l h. omega (arith, l) }
 
   fits_lex : (u : List ℕ) (k : ℕ) (s : State) → StateOk call text u k s → FitsAt s.lex k
@@ -105,11 +105,11 @@ module _ (call : Flags) (text : Bool) (w : List ℕ) where
       go (set_open a) h = tt
       go (in_class a v z) h = tt
 
-  pub stand_fits : (i : ℕ) (s : State) → i ≤ length w → Standing call text w i s → FitsAt s.lex i
+  pub stand_fits : (i : ℕ) (s : State) → i ≤ length w → HasRead call text w i s → FitsAt s.lex i
   stand_fits i s l h = subst (λ k. FitsAt s.lex k) (length-take-le i w l) (fits_lex (take i w) (length (take i w)) s (run_ok call text (take i w) s h.runs))
 
   -- One more code.
-  one_more : (i c : ℕ) (s : State) (o : Option State) → Standing call text w i s → slice_get w i ≡ Some c → step_at text i s c ≡ o → run text 0 (Some (start call)) (take (suc i) w) ≡ o
+  one_more : (i c : ℕ) (s : State) (o : Option State) → HasRead call text w i s → slice_get w i ≡ Some c → step_at text i s c ≡ o → run text 0 (Some (start call)) (take (suc i) w) ≡ o
   one_more i c s o h at_c st =
       let len : 0 + length (take i w) ≡ i = omega (arith, length-take-le i w (le_of_lt (slice_get_within w i c at_c))) in
       ap (run text 0 (Some (start call))) (take_one w i c at_c) ∙ run-append text 0 (start call) (take i w) (c ∷ []) ∙ ap (λ m. run text m (run text 0 (Some (start call)) (take i w)) (c ∷ [])) len ∙ ap (λ z. run text i z (c ∷ [])) h.runs ∙ ends o st
@@ -128,7 +128,7 @@ module _ (call : Flags) (text : Bool) (w : List ℕ) where
       let opens = none_not w i (λ q e. h.no_comment (h.opens, (q, e))) (λ q e f. h.no_reference (h.opens, (q, (e, f)))) in
       and_from (at_paren r.lex) _ lex (and_from (length r.base.below == 100) _ deep opens)
 
-  pub stand_step : (i c : ℕ) (s r : State) → Standing call text w i s → slice_get w i ≡ Some c → step_at text i s c ≡ Some r → is_too_deep r w i ≡ false → Standing call text w (suc i) r
+  pub stand_step : (i c : ℕ) (s r : State) → HasRead call text w i s → slice_get w i ≡ Some c → step_at text i s c ≡ Some r → is_too_deep r w i ≡ false → HasRead call text w (suc i) r
   stand_step i c s r h at_c st shallow_here =
       record {
         runs = one_more i c s (Some r) h at_c st;
@@ -136,7 +136,7 @@ module _ (call : Flags) (text : Bool) (w : List ℕ) where
       }
 
   -- A group is nested too deep after the last code.
-  pub stand_deep : (i c : ℕ) (s r : State) → Standing call text w i s → slice_get w i ≡ Some c → step_at text i s c ≡ Some r → is_too_deep r w i ≡ true → TooDeepAt call text w i × Begins call text (take (suc i) w) × ((q : ℕ) → q < i → ¬ TooDeepAt call text w q)
+  pub stand_deep : (i c : ℕ) (s r : State) → HasRead call text w i s → slice_get w i ≡ Some c → step_at text i s c ≡ Some r → is_too_deep r w i ≡ true → TooDeepAt call text w i × Begins call text (take (suc i) w) × ((q : ℕ) → q < i → ¬ TooDeepAt call text w q)
   stand_deep i c s r h at_c st deep_here =
       let runs = one_more i c s (Some r) h at_c st in
       let p1 = and_parts (at_paren r.lex) _ deep_here in
@@ -157,37 +157,37 @@ module _ (call : Flags) (text : Bool) (w : List ℕ) where
   none_deeper n v h q d = ⊎_elim (λ (z : q < n). h q z d) (λ (z : n ≤ q). v.longest (suc q) (omega (arith, z)) (slice_get_within w q 40 d.opens) (too_deep_begins call text w q d)) (cases_lt q n)
 
   -- The machine stops.
-  pub stand_dead : (i c : ℕ) (s : State) → Standing call text w i s → slice_get w i ≡ Some c → step_at text i s c ≡ None → Viable call text w i × ((p : Whole) → ¬ Spells call text w p) × Shallow call text w
+  pub stand_dead : (i c : ℕ) (s : State) → HasRead call text w i s → slice_get w i ≡ Some c → step_at text i s c ≡ None → Viable call text w i × ((p : Whole) → ¬ Spells call text w p) × Shallow call text w
   stand_dead i c s h at_c st =
       let v = stops_at call text w i c s h.runs at_c st in
       (v, stopped_spells_none call text w i c s h.runs at_c st, none_deeper i v h.shallow)
 
   -- The machine has read all codes.
-  all_taken : (s : State) → Standing call text w (length w) s → run text 0 (Some (start call)) w ≡ Some s
+  all_taken : (s : State) → HasRead call text w (length w) s → run text 0 (Some (start call)) w ≡ Some s
   all_taken s h = ap (run text 0 (Some (start call))) (sym (take_all (length w) w (omega arith))) ∙ h.runs
 
-  pub stand_end : (s : State) (p : Whole) → Standing call text w (length w) s → finish_at (length w) s ≡ Some p → Spells call text w p × Shallow call text w
+  pub stand_end : (s : State) (p : Whole) → HasRead call text w (length w) s → finish_at (length w) s ≡ Some p → Spells call text w p × Shallow call text w
   stand_end s p h e =
       let runs = all_taken s h in
       (read_is_spelled call text w p (run_then_finish call text w s runs ∙ e), none_deeper (length w) (takes_all call text w s runs) h.shallow)
 
-  pub stand_short : (s : State) → Standing call text w (length w) s → finish_at (length w) s ≡ None → Viable call text w (length w) × ((p : Whole) → ¬ Spells call text w p) × Shallow call text w
+  pub stand_short : (s : State) → HasRead call text w (length w) s → finish_at (length w) s ≡ None → Viable call text w (length w) × ((p : Whole) → ¬ Spells call text w p) × Shallow call text w
   stand_short s h e =
       let runs = all_taken s h in
       let v = takes_all call text w s runs in
       (v, unread_spells_none call text w (run_then_finish call text w s runs ∙ e), none_deeper (length w) v h.shallow)
 
   -- The answers for one code and for the end.
-  pub went_on : (i c : ℕ) (s r : State) → Standing call text w i s → slice_get w i ≡ Some c → (step_at text i s c ≡ Some r) × (is_too_deep r w i ≡ false) → Standing call text w (suc i) r
+  pub went_on : (i c : ℕ) (s r : State) → HasRead call text w i s → slice_get w i ≡ Some c → (step_at text i s c ≡ Some r) × (is_too_deep r w i ≡ false) → HasRead call text w (suc i) r
   went_on i c s r h at_c z = stand_step i c s r h at_c z.0 z.1
 
-  pub went_wrong : (i c : ℕ) (s r : State) (e : ReadError) → Standing call text w i s → slice_get w i ≡ Some c → Went w i (step_at text i s c) r (Err e) → Answered call text w (Err e)
+  pub went_wrong : (i c : ℕ) (s r : State) (e : ReadError) → HasRead call text w i s → slice_get w i ≡ Some c → Went w i (step_at text i s c) r (Err e) → Answered call text w (Err e)
   went_wrong i c s r (Syntax n) h at_c z = subst (λ m. Answered call text w (Err (Syntax m))) (sym z.1) (stand_dead i c s h at_c z.0)
   went_wrong i c s r (TooDeep n) h at_c z = subst (λ m. Answered call text w (Err (TooDeep m))) (sym z.2) (stand_deep i c s r h at_c z.0 z.1)
   went_wrong i c s r OutOfMemory h at_c z = tt
 
-  pub ended_right : (i : ℕ) (s : State) (r : Result ProgramWhole ReadError) → i ≡ length w → Standing call text w i s → Ended i (finish_at i s) r → Answered call text w r
-  ended_right i s (Ok p) e h z = stand_end s (whole_of p) (subst (λ k. Standing call text w k s) e h) (subst (λ k. finish_at k s ≡ Some (whole_of p)) e z)
-  ended_right i s (Err (Syntax n)) e h z = subst (λ m. Answered call text w (Err (Syntax m))) (sym (z.1 ∙ e)) (stand_short s (subst (λ k. Standing call text w k s) e h) (subst (λ k. finish_at k s ≡ None) e z.0))
+  pub ended_right : (i : ℕ) (s : State) (r : Result ProgramWhole ReadError) → i ≡ length w → HasRead call text w i s → Ended i (finish_at i s) r → Answered call text w r
+  ended_right i s (Ok p) e h z = stand_end s (whole_of p) (subst (λ k. HasRead call text w k s) e h) (subst (λ k. finish_at k s ≡ Some (whole_of p)) e z)
+  ended_right i s (Err (Syntax n)) e h z = subst (λ m. Answered call text w (Err (Syntax m))) (sym (z.1 ∙ e)) (stand_short s (subst (λ k. HasRead call text w k s) e h) (subst (λ k. finish_at k s ≡ None) e z.0))
   ended_right i s (Err (TooDeep n)) e h z = absurd z
   ended_right i s (Err OutOfMemory) e h z = tt

@@ -5,7 +5,7 @@ use Rattle.std.proofs.lemmas.List.{append-nil}
 use mathlib.Core.Logic.{⊎_elim}
 use Rattle.rl_syntax.specs.declared.span.Span.{Span}
 use Rattle.rl_syntax.specs.PatTree.{PatTree, PatTrees, BranchTrees, nothing, class, seq, choice, repeat, group, anchor, boundary, outside, no_items, item, no_branches, branch}
-use Rattle.rl_pattern.specs.Cut.{choice_of, left, left_items, left_branches}
+use Rattle.rl_pattern.specs.Cut.{choice_of, remaining, remaining_items, remaining_branches}
 use Rattle.rl_syntax.specs.AllowedPair.{AllowedPair, any_in_any, some_in_any, option_in_any, some_in_some}
 use Rattle.rl_pattern.proofs.Merged.{MayMerge, AllMayMerge, BranchesMayMerge, MergesUnder, MergesIn}
 use Rattle.rl_pattern.specs.Suggested.{same_span, among, no_span, holds_capture, is_allowed, merged_in, items_merged, branches_merged, under, merged_at, inside}
@@ -82,25 +82,25 @@ choice_placed s (branch r p (branch t q bs)) i j h = h
 -- So do the parts that are left.
 module _ (drop : Span → Bool) where
   mutual
-    pub left_placed : (p : PatTree) (i j : ℕ) → Placed p i j → Placed (left drop no_span p) i j
+    pub left_placed : (p : PatTree) (i j : ℕ) → Placed p i j → Placed (remaining drop no_span p) i j
     left_placed (nothing s) i j h = h
     left_placed (class s set) i j h = h
     left_placed (seq s ps) i j h = left_items_placed ps i j h
-    left_placed (choice s bs) i j h = choice_placed s (left_branches drop no_span bs) i j (left_branches_placed bs i j h)
+    left_placed (choice s bs) i j h = choice_placed s (remaining_branches drop no_span bs) i j (left_branches_placed bs i j h)
     left_placed (repeat s q l m g p) i j (k, h, a, b, c) = (k, left_placed p i k h, a, b, c)
     left_placed (group s c p) i j h = left_placed p i j h
     left_placed (anchor s k m) i j h = h
     left_placed (boundary s n a) i j h = h
     left_placed (outside s f) i j h = h
 
-    left_items_placed : (ps : PatTrees) (i j : ℕ) → PlacedItems ps i j → PlacedItems (left_items drop no_span ps) i j
+    left_items_placed : (ps : PatTrees) (i j : ℕ) → PlacedItems ps i j → PlacedItems (remaining_items drop no_span ps) i j
     left_items_placed no_items i j h = h
     left_items_placed (item p ps) i j (k, h, hs) = (k, left_placed p i k h, left_items_placed ps k j hs)
 
-    left_branches_placed : (bs : BranchTrees) (i j : ℕ) → PlacedBranches bs i j → PlacedBranches (left_branches drop no_span bs) i j
+    left_branches_placed : (bs : BranchTrees) (i j : ℕ) → PlacedBranches bs i j → PlacedBranches (remaining_branches drop no_span bs) i j
     left_branches_placed no_branches i j h = h
     left_branches_placed (branch s p bs) i j (c, h, hs) =
-        cond_both (drop s) (left_branches drop no_span bs) (branch s (left drop no_span p) (left_branches drop no_span bs)) (λ z. PlacedBranches z i j) (λ z. branches_more (left_branches drop no_span bs) s.upto j i j (omega (arith, c, placed_le p s.from s.upto h)) (omega arith) (left_branches_placed bs s.upto j hs)) (λ z. (c, left_placed p s.from s.upto h, left_branches_placed bs s.upto j hs))
+        cond_both (drop s) (remaining_branches drop no_span bs) (branch s (remaining drop no_span p) (remaining_branches drop no_span bs)) (λ z. PlacedBranches z i j) (λ z. branches_more (remaining_branches drop no_span bs) s.upto j i j (omega (arith, c, placed_le p s.from s.upto h)) (omega arith) (left_branches_placed bs s.upto j hs)) (λ z. (c, left_placed p s.from s.upto h, left_branches_placed bs s.upto j hs))
 
 -- Spans between two positions.
 abbrev Within : ℕ → ℕ → List Span → Type 0
@@ -291,31 +291,31 @@ module _ (drop out : Span → Bool) where
   abbrev none_of : Span → Bool
   none_of r = false
 
-  choice_once : (s : Span) (bs : BranchTrees) → left (λ r. false) out (choice_of s bs) ≡ choice_of s (left_branches (λ r. false) out bs)
+  choice_once : (s : Span) (bs : BranchTrees) → remaining (λ r. false) out (choice_of s bs) ≡ choice_of s (remaining_branches (λ r. false) out bs)
   choice_once s no_branches = refl
   choice_once s (branch r p no_branches) = refl
   choice_once s (branch r p (branch t q bs)) = refl
 
   mutual
-    pub left_twice : (p : PatTree) → left (λ r. false) out (left drop no_span p) ≡ left drop out p
+    pub left_twice : (p : PatTree) → remaining (λ r. false) out (remaining drop no_span p) ≡ remaining drop out p
     left_twice (nothing s) = refl
     left_twice (class s set) = refl
     left_twice (seq s ps) = ap (seq s) (items_twice ps)
-    left_twice (choice s bs) = choice_once s (left_branches drop no_span bs) ∙ ap (choice_of s) (branches_twice bs)
+    left_twice (choice s bs) = choice_once s (remaining_branches drop no_span bs) ∙ ap (choice_of s) (branches_twice bs)
     left_twice (repeat s q l m g p) = ap (λ x. if out q then x else repeat s q l m g x) (left_twice p)
     left_twice (group s c p) = ap (group s c) (left_twice p)
     left_twice (anchor s k m) = refl
     left_twice (boundary s n a) = refl
     left_twice (outside s f) = refl
 
-    items_twice : (ps : PatTrees) → left_items (λ r. false) out (left_items drop no_span ps) ≡ left_items drop out ps
+    items_twice : (ps : PatTrees) → remaining_items (λ r. false) out (remaining_items drop no_span ps) ≡ remaining_items drop out ps
     items_twice no_items = refl
-    items_twice (item p ps) = ap (λ x. item x (left_items (λ r. false) out (left_items drop no_span ps))) (left_twice p) ∙ ap (item (left drop out p)) (items_twice ps)
+    items_twice (item p ps) = ap (λ x. item x (remaining_items (λ r. false) out (remaining_items drop no_span ps))) (left_twice p) ∙ ap (item (remaining drop out p)) (items_twice ps)
 
-    branches_twice : (bs : BranchTrees) → left_branches (λ r. false) out (left_branches drop no_span bs) ≡ left_branches drop out bs
+    branches_twice : (bs : BranchTrees) → remaining_branches (λ r. false) out (remaining_branches drop no_span bs) ≡ remaining_branches drop out bs
     branches_twice no_branches = refl
     branches_twice (branch s p bs) = go (drop s) (left_twice p) (branches_twice bs)
       where
-        go : (b : Bool) → left (λ r. false) out (left drop no_span p) ≡ left drop out p → left_branches (λ r. false) out (left_branches drop no_span bs) ≡ left_branches drop out bs → left_branches (λ r. false) out (if b then left_branches drop no_span bs else branch s (left drop no_span p) (left_branches drop no_span bs)) ≡ (if b then left_branches drop out bs else branch s (left drop out p) (left_branches drop out bs))
+        go : (b : Bool) → remaining (λ r. false) out (remaining drop no_span p) ≡ remaining drop out p → remaining_branches (λ r. false) out (remaining_branches drop no_span bs) ≡ remaining_branches drop out bs → remaining_branches (λ r. false) out (if b then remaining_branches drop no_span bs else branch s (remaining drop no_span p) (remaining_branches drop no_span bs)) ≡ (if b then remaining_branches drop out bs else branch s (remaining drop out p) (remaining_branches drop out bs))
         go true x y = y
-        go false x y = ap (λ z. branch s z (left_branches (λ r. false) out (left_branches drop no_span bs))) x ∙ ap (branch s (left drop out p)) y
+        go false x y = ap (λ z. branch s z (remaining_branches (λ r. false) out (remaining_branches drop no_span bs))) x ∙ ap (branch s (remaining drop out p)) y

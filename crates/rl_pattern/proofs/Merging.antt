@@ -7,7 +7,7 @@ use Rattle.rl_syntax.specs.PatTree as s
 use Rattle.rl_syntax.specs.SameSpans.{SameSpans}
 use Rattle.rl_syntax.specs.AllowedPair.{AllowedPair}
 use Rattle.rl_syntax.proofs.Stars.{stars, same_refl, AllSame, none_same, more_same, same_in_turn, same_one_of, same_times}
-use Rattle.rl_pattern.specs.Cut.{choice_of, left, left_items, left_branches}
+use Rattle.rl_pattern.specs.Cut.{choice_of, remaining, remaining_items, remaining_branches}
 use Rattle.rl_pattern.proofs.Merged.{MayMerge, AllMayMerge, BranchesMayMerge, MergesUnder, MergesIn}
 
 module _ (out : Span → Bool) where
@@ -15,13 +15,13 @@ module _ (out : Span → Bool) where
   none_dropped r = false
 
   abbrev kept_of : s.PatTree → s.PatTree
-  kept_of p = left (λ r. false) out p
+  kept_of p = remaining (λ r. false) out p
 
   abbrev items_kept : s.PatTrees → s.PatTrees
-  items_kept ps = left_items (λ r. false) out ps
+  items_kept ps = remaining_items (λ r. false) out ps
 
   abbrev branches_kept : s.BranchTrees → s.BranchTrees
-  branches_kept bs = left_branches (λ r. false) out bs
+  branches_kept bs = remaining_branches (λ r. false) out bs
 
   choice_tree : (r : Span) (bs : s.BranchTrees) → lowered (choice_of r bs) ≡ one_of (branches_lowered bs)
   choice_tree r s.no_branches = refl

@@ -7,7 +7,7 @@ use Rattle.rl_pattern.specs.declared.flags.Flags.{Flags}
 use Rattle.rl_pattern.specs.Tree.{Span, span, Count, Greed, greedy, lazy, possessive, any, glyph, members, Member, Escaped, reference, Kind, capturing, named, scoped, lookaround, atomic, conditional, SyntaxNode, leaf, mark, repeat, group, nothing, seq, choice, Nodes, no_nodes, more_nodes, Branches, no_branches, more_branches, nodes, branches, Branch, branch_body, branch, whole_body, Whole}
 use Rattle.rl_pattern.specs.Codes.{TokenClass, sign, left, right, bar, brace, slash, dot, bracket, times, edge, blank, sharp, plain, EscapeClass, slashed, single, kinds, hexes, naming, octal, low, high, edges, no_escape, counts, count_of, splits, GroupPrefix, headed, letter, colon, minus, letter_p, sharps, looks, less, greater, condition, no_head, begins_name, goes_in_name, is_digit, on_letter, off_letter, with_letter, no_flags, joined}
 use Rattle.rl_pattern.specs.internal.Signs.{HeadIs}
-use Rattle.rl_pattern.specs.internal.Machine.{Answer, stops, goes, ends, InEscape, escape_first, escape_next, escape_rest, set_first, Set, set_step, InHead, paren, quest, after_p, after_less, group_name, group_name_goes, reference_name, reference_name_goes, asks, asks_digits, asks_name_goes, letters_on, letters_dash, letters_off, GroupStart, begins_group, begins_comment, is_reference, is_front, head_step, quest_next, behind_next, Frame, Last, nothing_yet, an_atom, Base, Lex, between, line, comment, in_braces, counted, at_slash, in_escape, in_head, set_open, in_class, State, at, settled, put_last, put, put_item, put_leaf, put_code, put_codes, no_count, put_repeat, count_last, all_branches, next_branch, split, open_group, body_up_to, close, is_nil, is_settled, at_front, put_front, begin, pass_or_put, by_sign, go_on, end_braces, braces_step, counted_step, escape_begins, slash_step, escape_step, behind_paren, head_stops, head_answer, set_answer, step, step_at, run, observe, finish_below, finish_escape, finish_lex, finish_at, start}
+use Rattle.rl_pattern.specs.internal.Machine.{Answer, stops, goes, ends, InEscape, escape_first, escape_next, escape_rest, set_first, Set, set_step, InHead, paren, quest, after_p, after_less, group_name, group_name_goes, reference_name, reference_name_goes, asks, asks_digits, asks_name_goes, letters_on, letters_dash, letters_off, GroupStart, begins_group, begins_comment, is_reference, is_front, head_step, quest_next, after_less_next, Frame, Last, nothing_yet, an_atom, Base, Lex, between, line, comment, in_braces, counted, at_slash, in_escape, in_head, set_open, in_class, State, at, settled, put_last, put, put_item, put_leaf, put_code, put_codes, no_count, put_repeat, count_last, all_branches, next_branch, split, open_group, body_up_to, close, is_nil, is_settled, at_front, put_front, begin, pass_or_put, by_sign, go_on, end_braces, braces_step, counted_step, escape_begins, slash_step, escape_step, behind_paren, head_stops, head_answer, set_answer, step, step_at, run, observe, finish_below, finish_escape, finish_lex, finish_at, start}
 use Rattle.rl_pattern.proofs.Sound.{Holds}
 use Rattle.rl_pattern.proofs.Viability.{observe_none, observe-append}
 use Rattle.rl_pattern.proofs.KeptHeads.{head_is}
@@ -367,7 +367,7 @@ WillOpen stops = Unit {0}
 WillOpen (goes h) = Opens h
 WillOpen (ends o) = BegunOpens o
 
-behind_opens : (x : GroupPrefix) → WillOpen (behind_next x)
+behind_opens : (x : GroupPrefix) → WillOpen (after_less_next x)
 behind_opens looks = tt
 behind_opens letter = tt
 behind_opens colon = tt

@@ -7,7 +7,7 @@ use Rattle.rl_pattern.specs.declared.flags.Flags.{Flags}
 use Rattle.rl_pattern.specs.Tree.{Span, SyntaxNode, Branch, branch_body, branch, whole_body, Front, Whole}
 use Rattle.rl_pattern.specs.Codes.{joined}
 use Rattle.rl_pattern.specs.internal.Judged.{is_among, without_leading, without_trailing}
-use Rattle.rl_pattern.specs.Found.{fault_if, Called, name_faults, node_names, node_faults, is_leading, trail_of, no_trail, run_of, drops, begins_leading, trailing_run, inner_items, items_of, Inner, inner_of, inner, front_own, front_faults, whole_faults, refused, first_fault, is_locale, is_flag_clash, is_duplicate_name}
+use Rattle.rl_pattern.specs.Found.{fault_if, Called, name_faults, node_names, node_faults, is_leading, trail_of, no_trail, run_of, is_some_trail, begins_leading, trailing_run, inner_items, items_of, Inner, inner_of, inner, front_own, front_faults, whole_faults, refused, first_fault, is_locale, is_flag_clash, is_duplicate_name}
 use Rattle.rl_pattern.specs.Shape.{is_text}
 use Rattle.rl_pattern.specs.internal.Left.{moved_front}
 use Rattle.rl_pattern.proofs.InnerBare.{AllItems, branch_items}
@@ -61,7 +61,7 @@ bare_leading (p ∷ ps) (x, z, hs) = ap (λ b. if b then without_leading ps else
 
 bare_trailing : (ps : List SyntaxNode) → AllBare ps → (without_trailing ps ≡ ps) × (trailing_run ps ≡ no_trail)
 bare_trailing [] h = (refl, refl)
-bare_trailing (p ∷ ps) (x, z, hs) = (ap (λ t. if drops t then without_trailing ps else p ∷ ps) z, ap (λ t. run_of t (trailing_run ps)) z)
+bare_trailing (p ∷ ps) (x, z, hs) = (ap (λ t. if is_some_trail t then without_trailing ps else p ∷ ps) z, ap (λ t. run_of t (trailing_run ps)) z)
 
 begins_bare : (ps : List SyntaxNode) → AllBare ps → begins_leading ps ≡ false
 begins_bare [] h = refl
@@ -95,11 +95,11 @@ module _ (u : Universe) (drop out : Span → Bool) where
 
   all_trailing : {ps qs : List SyntaxNode} → LeavesAll u drop out ps qs → LeavesAll u drop out (without_trailing ps) (without_trailing qs)
   all_trailing all_none = all_none
-  all_trailing (all_more {p = p} {q = q} {ps = ps} {qs = qs} h e hs) = go (all_trailing hs) (drops (trail_of p)) refl
+  all_trailing (all_more {p = p} {q = q} {ps = ps} {qs = qs} h e hs) = go (all_trailing hs) (is_some_trail (trail_of p)) refl
     where
-      go : LeavesAll u drop out (without_trailing ps) (without_trailing qs) → (b : Bool) → drops (trail_of p) ≡ b → LeavesAll u drop out (if drops (trail_of p) then without_trailing ps else p ∷ ps) (if drops (trail_of q) then without_trailing qs else q ∷ qs)
-      go rest true x = subst (λ b. LeavesAll u drop out (if b then without_trailing ps else p ∷ ps) (if drops (trail_of q) then without_trailing qs else q ∷ qs)) (sym x) (subst (λ b. LeavesAll u drop out (without_trailing ps) (if b then without_trailing qs else q ∷ qs)) (sym (ap drops e.trails ∙ x)) rest)
-      go rest false x = subst (λ b. LeavesAll u drop out (if b then without_trailing ps else p ∷ ps) (if drops (trail_of q) then without_trailing qs else q ∷ qs)) (sym x) (subst (λ b. LeavesAll u drop out (p ∷ ps) (if b then without_trailing qs else q ∷ qs)) (sym (ap drops e.trails ∙ x)) (all_more h e hs))
+      go : LeavesAll u drop out (without_trailing ps) (without_trailing qs) → (b : Bool) → is_some_trail (trail_of p) ≡ b → LeavesAll u drop out (if is_some_trail (trail_of p) then without_trailing ps else p ∷ ps) (if is_some_trail (trail_of q) then without_trailing qs else q ∷ qs)
+      go rest true x = subst (λ b. LeavesAll u drop out (if b then without_trailing ps else p ∷ ps) (if is_some_trail (trail_of q) then without_trailing qs else q ∷ qs)) (sym x) (subst (λ b. LeavesAll u drop out (without_trailing ps) (if b then without_trailing qs else q ∷ qs)) (sym (ap is_some_trail e.trails ∙ x)) rest)
+      go rest false x = subst (λ b. LeavesAll u drop out (if b then without_trailing ps else p ∷ ps) (if is_some_trail (trail_of q) then without_trailing qs else q ∷ qs)) (sym x) (subst (λ b. LeavesAll u drop out (p ∷ ps) (if b then without_trailing qs else q ∷ qs)) (sym (ap is_some_trail e.trails ∙ x)) (all_more h e hs))
 
   all_run : {ps qs : List SyntaxNode} → LeavesAll u drop out ps qs → trailing_run qs ≡ trailing_run ps
   all_run all_none = refl

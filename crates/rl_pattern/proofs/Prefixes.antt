@@ -7,7 +7,7 @@ use mathlib.Core.Logic.{inl, inr, ⊎_elim}
 use Rattle.rl_pattern.specs.declared.flags.Flags.{Flags}
 use Rattle.rl_pattern.specs.Tree.{Span, span, nodes, branches, branch_body, Kind, capturing, named, scoped, lookaround, atomic, conditional, SyntaxNode, Branch, branch, whole_body, Front, Whole}
 use Rattle.rl_pattern.specs.Codes.{splits, on_letter, GroupPrefix, headed, sharps, looks, letter_p}
-use Rattle.rl_pattern.specs.Grammar.{At, Stands, Letters, first_letter, next_letter, Opening, captures, captures_named, groups, groups_on, groups_both, groups_off, looks_ahead, looks_behind, cuts, asks_number, asks_name, Atom, literal, literal_brace, dotted, escaped, refers, bracketed, grouped, Item, once, repeated, edge_code, edge_escape, Items, no_items, pass_over, one_item, IsBranches, first_branch, next_branch, Fronts, spelled, Spells}
+use Rattle.rl_pattern.specs.Grammar.{At, SpelledAt, Letters, first_letter, next_letter, Opening, captures, captures_named, groups, groups_on, groups_both, groups_off, looks_ahead, looks_behind, cuts, asks_number, asks_name, Atom, literal, literal_brace, dotted, escaped, refers, bracketed, grouped, Item, once, repeated, edge_code, edge_escape, Items, no_items, pass_over, one_item, IsBranches, first_branch, next_branch, Fronts, spelled, Spells}
 use Rattle.rl_pattern.specs.Viable.{Part, part_first, part_next, Open, none_open, one_open}
 use Rattle.rl_pattern.specs.Answers.{Shallow}
 use Rattle.rl_pattern.specs.internal.Meeting.{Thinned}
@@ -191,7 +191,7 @@ module _ (text : Bool) (w : List ℕ) where
   opening_at (asks_number q d e) = q.0
   opening_at (asks_name q n e) = q.0
 
-  no_comment : {i j : ℕ} {kd : Kind} → Opening text w i j kd → ¬ Stands text w i "(?#"
+  no_comment : {i j : ℕ} {kd : Kind} → Opening text w i j kd → ¬ SpelledAt text w i "(?#"
   no_comment (captures {i = i} at_i at_c ne) (a, (b, r)) = ne (same_code w (suc i) _ 63 at_c b)
   no_comment (captures_named {i = i} q n e) (z, (y, r)) = apart_from (suc (suc i)) 80 35 q.1.1.0 r refl
   no_comment (groups {i = i} q) (z, (y, r)) = apart_from (suc (suc i)) 58 35 q.1.1 r refl
@@ -204,7 +204,7 @@ module _ (text : Bool) (w : List ℕ) where
   no_comment (asks_number {i = i} q d e) (z, (y, r)) = apart_from (suc (suc i)) 40 35 q.1.1 r refl
   no_comment (asks_name {i = i} q n e) (z, (y, r)) = apart_from (suc (suc i)) 40 35 q.1.1 r refl
 
-  no_reference : {i j : ℕ} {kd : Kind} → Opening text w i j kd → ¬ Stands text w i "(?P="
+  no_reference : {i j : ℕ} {kd : Kind} → Opening text w i j kd → ¬ SpelledAt text w i "(?P="
   no_reference (captures {i = i} at_i at_c ne) (a, (b, r)) = ne (same_code w (suc i) _ 63 at_c b)
   no_reference (captures_named {i = i} q n e) (z, (y, (r, x))) = apart_from (suc (suc (suc i))) 60 61 q.1.1.1 x refl
   no_reference (groups {i = i} q) (z, (y, (r, x))) = apart_from (suc (suc i)) 58 80 q.1.1 r refl

@@ -5,7 +5,7 @@ use Rattle.rl_ranges.specs.declared.universe.Universe.{Universe}
 use Rattle.rl_syntax.specs.PatTree as s
 use Rattle.rl_pattern.specs.Tree.{Span, SyntaxNode, leaf, mark, repeat, group, nothing, seq, choice, nodes, branches, Branch, branch_body, whole_body, caret, text_start, dollar, text_end, boundary}
 use Rattle.rl_pattern.specs.internal.Judged.{without_leading, without_trailing}
-use Rattle.rl_pattern.specs.Found.{is_leading, trail_of, drops, no_trail, inner_items, items_of, inner_of}
+use Rattle.rl_pattern.specs.Found.{is_leading, trail_of, is_some_trail, no_trail, inner_items, items_of, inner_of}
 use Rattle.rl_pattern.specs.Shape.{shape, shapes, branch_shapes}
 use Rattle.rl_pattern.specs.Suggested.{holds_guard, some_guard, branch_guard}
 use Rattle.rl_pattern.proofs.Holes.{hole, holes, body_holes, mark_hole, holes_snoc}
@@ -33,16 +33,16 @@ leading_back P f (p ∷ ps) h = go (is_leading p) refl (leading_back P f ps)
     go true e rest = (f p e, rest (subst (λ b. AllOf P (if b then without_leading ps else p ∷ ps)) e h))
     go false e rest = subst (λ b. AllOf P (if b then without_leading ps else p ∷ ps)) e h
 
-trailing_back : (P : SyntaxNode → Type 0) → ((p : SyntaxNode) → drops (trail_of p) ≡ true → P p) → (ps : List SyntaxNode) → AllOf P (without_trailing ps) → AllOf P ps
+trailing_back : (P : SyntaxNode → Type 0) → ((p : SyntaxNode) → is_some_trail (trail_of p) ≡ true → P p) → (ps : List SyntaxNode) → AllOf P (without_trailing ps) → AllOf P ps
 trailing_back P f [] h = tt
-trailing_back P f (p ∷ ps) h = go (drops (trail_of p)) refl (trailing_back P f ps)
+trailing_back P f (p ∷ ps) h = go (is_some_trail (trail_of p)) refl (trailing_back P f ps)
   where
-    go : (b : Bool) → drops (trail_of p) ≡ b → (AllOf P (without_trailing ps) → AllOf P ps) → AllOf P (p ∷ ps)
+    go : (b : Bool) → is_some_trail (trail_of p) ≡ b → (AllOf P (without_trailing ps) → AllOf P ps) → AllOf P (p ∷ ps)
     go true e rest = (f p e, rest (subst (λ b. AllOf P (if b then without_trailing ps else p ∷ ps)) e h))
     go false e rest = subst (λ b. AllOf P (if b then without_trailing ps else p ∷ ps)) e h
 
 -- What holds for outer anchors and for the items between them holds for all items.
-pub all_back : (P : SyntaxNode → Type 0) → ((p : SyntaxNode) → is_leading p ≡ true → P p) → ((p : SyntaxNode) → drops (trail_of p) ≡ true → P p) → (ps : List SyntaxNode) → AllOf P (inner_items ps) → AllOf P ps
+pub all_back : (P : SyntaxNode → Type 0) → ((p : SyntaxNode) → is_leading p ≡ true → P p) → ((p : SyntaxNode) → is_some_trail (trail_of p) ≡ true → P p) → (ps : List SyntaxNode) → AllOf P (inner_items ps) → AllOf P ps
 all_back P f g ps h =
     let back : AllOf P (without_trailing (reverse (without_leading ps))) = subst (AllOf P) (reverse-reverse (without_trailing (reverse (without_leading ps)))) (all_reverse P (inner_items ps) h) in
     leading_back P f ps (subst (AllOf P) (reverse-reverse (without_leading ps)) (all_reverse P (reverse (without_leading ps)) (trailing_back P g (reverse (without_leading ps)) back)))
@@ -57,7 +57,7 @@ module _ (u : Universe) (drop out : Span → Bool) where
   lead_good (seq r ps) h = absurd (true≢false (sym h))
   lead_good (choice r bs) h = absurd (true≢false (sym h))
 
-  trail_good : (p : SyntaxNode) → drops (trail_of p) ≡ true → Good u drop out p
+  trail_good : (p : SyntaxNode) → is_some_trail (trail_of p) ≡ true → Good u drop out p
   trail_good (mark r f m) h = tt
   trail_good (leaf r f x) h = tt
   trail_good (repeat r q n g p) h = absurd (true≢false (sym h))
@@ -136,7 +136,7 @@ module _ (u : Universe) (drop out : Span → Bool) where
   lead_hole (seq r ps) t h = absurd (true≢false (sym h))
   lead_hole (choice r bs) t h = absurd (true≢false (sym h))
 
-  trail_hole : (p : SyntaxNode) (t : ℕ) → drops (trail_of p) ≡ true → hole u drop out p t ≡ false
+  trail_hole : (p : SyntaxNode) (t : ℕ) → is_some_trail (trail_of p) ≡ true → hole u drop out p t ≡ false
   trail_hole (mark r f m) t h = no_true (hole u drop out (mark r f m) t) (mark_hole u drop out r f m t)
   trail_hole (leaf r f x) t h = refl
   trail_hole (repeat r q n g p) t h = absurd (true≢false (sym h))
@@ -155,9 +155,9 @@ module _ (u : Universe) (drop out : Span → Bool) where
 
   trailing_holes : (ps : List SyntaxNode) (t : ℕ) → holes u drop out (without_trailing ps) t ≡ holes u drop out ps t
   trailing_holes [] t = refl
-  trailing_holes (p ∷ ps) t = go (drops (trail_of p)) refl (trailing_holes ps t)
+  trailing_holes (p ∷ ps) t = go (is_some_trail (trail_of p)) refl (trailing_holes ps t)
     where
-      go : (b : Bool) → drops (trail_of p) ≡ b → holes u drop out (without_trailing ps) t ≡ holes u drop out ps t → holes u drop out (if drops (trail_of p) then without_trailing ps else p ∷ ps) t ≡ holes u drop out (p ∷ ps) t
+      go : (b : Bool) → is_some_trail (trail_of p) ≡ b → holes u drop out (without_trailing ps) t ≡ holes u drop out ps t → holes u drop out (if is_some_trail (trail_of p) then without_trailing ps else p ∷ ps) t ≡ holes u drop out (p ∷ ps) t
       go true e rest = ap (λ b. holes u drop out (if b then without_trailing ps else p ∷ ps) t) e ∙ rest ∙ ap (λ b. b || holes u drop out ps t) (sym (trail_hole p t e))
       go false e rest = ap (λ b. holes u drop out (if b then without_trailing ps else p ∷ ps) t) e
 

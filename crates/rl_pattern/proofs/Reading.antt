@@ -8,7 +8,7 @@ use mathlib.Core.Logic.{inl, inr, ⊎_elim}
 use Rattle.rl_pattern.specs.declared.flags.Flags.{Flags}
 use Rattle.rl_pattern.specs.Tree.{span, Count, Greed, greedy, lazy, possessive, Escaped, glyph, Kind, SyntaxNode, mark, repeat, group, Branch, branch, whole_body, Front, Whole}
 use Rattle.rl_pattern.specs.Codes.{sign, left, right, bar, brace, slash, dot, bracket, times, edge, blank, sharp, plain, numeral, is_digit, counts, count_of, edges, slashed, EscapeClass, single, kinds, hexes, naming, octal, low, high, no_escape, joined, splits}
-use Rattle.rl_pattern.specs.Grammar.{is_literal, outermost, At, Without, no_code, one_code, SetHead, upright, inverted, Opening, captures, captures_named, groups, groups_on, groups_both, groups_off, looks_ahead, looks_behind, cuts, asks_number, asks_name, Text, no_text, one_text, Braces, braces, Counts, by_code, by_braces, Quantifier, is_greedy, is_lazy, is_possessive, Passed, pass_blank, pass_line, pass_last_line, pass_comment, Blanks, no_blank, one_blank, Atom, literal, literal_brace, dotted, escaped, refers, bracketed, grouped, Item, once, repeated, edge_code, edge_escape, Items, no_items, pass_over, one_item, IsBranches, first_branch, next_branch, FlagGroup, flag_group, Fronts, no_fronts, one_front, spelled, Spells}
+use Rattle.rl_pattern.specs.Grammar.{is_literal, outermost, At, Without, no_code, one_code, SetHead, upright, inverted, Opening, captures, captures_named, groups, groups_on, groups_both, groups_off, looks_ahead, looks_behind, cuts, asks_number, asks_name, Text, no_text, one_text, Braces, braces, Counts, by_code, by_braces, Quantifier, is_greedy, is_lazy, is_possessive, Ignored, pass_blank, pass_line, pass_last_line, pass_comment, Blanks, no_blank, one_blank, Atom, literal, literal_brace, dotted, escaped, refers, bracketed, grouped, Item, once, repeated, edge_code, edge_escape, Items, no_items, pass_over, one_item, IsBranches, first_branch, next_branch, FlagGroup, flag_group, Fronts, no_fronts, one_front, spelled, Spells}
 use Rattle.rl_pattern.specs.internal.Machine.{Frame, Last, nothing_yet, an_atom, Base, between, line, in_braces, counted, at_slash, in_escape, State, at, settled, put_leaf, put_code, put_codes, no_count, put_repeat, open_group, is_nil, by_sign, go_on, end_braces, escape_begins, slash_step, escape_step, InEscape, Answer, stops, goes, ends, escape_first, escape_rest, step_at, observe, finish_at, finish_escape, start, reads}
 use Rattle.rl_pattern.proofs.Steps.{Fair, reads_from, goes_to, same_step, same_end, alike, alike_steps, sign_goes, differs}
 use Rattle.rl_pattern.proofs.Escapes.{Reader, escape_goes, backslash}
@@ -90,7 +90,7 @@ module _ (text : Bool) (w : List ℕ) {X : Type 0} (ask : ℕ → State → Opti
   line_goes b no_code = refl
   line_goes b (one_code {j = j} {c = c} h at_c ne) = line_goes b h ∙ goes_to text w ask j c _ _ at_c (ap (λ t. cond t (Some (at b between)) (Some (at b line))) (ne_eqb c 10 ne))
 
-  pub passed_goes : {fl : Flags} {i j : ℕ} → Passed text w fl i j → (b : Base) → b.top.flags ≡ fl → From i (at b between) ≡ From j (at b between)
+  pub passed_goes : {fl : Flags} {i j : ℕ} → Ignored text w fl i j → (b : Base) → b.top.flags ≡ fl → From i (at b between) ≡ From j (at b between)
   passed_goes (pass_blank {i = i} {c = c} on at_c is) b e =
       sign_goes text w ask i c b blank _ at_c is (ap (λ f. cond f.verbose (Some (at b between)) (Some (at (put_code b i c) between))) e ∙ ap (λ v. cond v (Some (at b between)) (Some (at (put_code b i c) between))) on)
   passed_goes (pass_line {i = i} {k = k} on at_c h at_end) b e =

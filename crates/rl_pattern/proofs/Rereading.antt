@@ -16,8 +16,8 @@ use Rattle.rl_pattern.specs.Shape.{is_text, shape}
 use Rattle.rl_pattern.specs.Answers.{Shallow}
 use Rattle.rl_pattern.specs.Parsed.{IsSpelled, IsParsed}
 use Rattle.rl_pattern.specs.Thinned.{kept_from}
-use Rattle.rl_pattern.specs.Cut.{left}
-use Rattle.rl_pattern.specs.Reread.{IsLeft}
+use Rattle.rl_pattern.specs.Cut.{remaining}
+use Rattle.rl_pattern.specs.Reread.{IsRemaining}
 use Rattle.rl_pattern.proofs.Reading.{one_is_spelled}
 use Rattle.rl_pattern.proofs.InnerBare.{inner_pattern}
 use Rattle.rl_pattern.proofs.Bodies.{pattern_from, body_of-from, others-from}
@@ -54,10 +54,10 @@ module _ (u : Universe) (flags : Flags) (drop out : Span → Bool) (w : List ℕ
   same_whole : (q : Whole) → Spells flags (is_text u) the_codes q → q ≡ cuts.what
   same_whole q h = one_is_spelled flags (is_text u) the_codes q cuts.what h cuts.is_spelled
 
-  is_left : (new : Pattern) → IsSpelled flags u the_codes new cuts.what → IsLeft drop out found new
+  is_left : (new : Pattern) → IsSpelled flags u the_codes new cuts.what → IsRemaining drop out found new
   is_left new h =
       record {
-        tree = ap lowered h.pattern.body ∙ cuts.anchors.same ∙ sym (ap (λ p. lowered (left drop out p)) sp.pattern.body);
+        tree = ap lowered h.pattern.body ∙ cuts.anchors.same ∙ sym (ap (λ p. lowered (remaining drop out p)) sp.pattern.body);
         leading = h.pattern.leading ∙ cuts.anchors.leading ∙ sym sp.pattern.leading;
         trailing = h.pattern.trailing ∙ cuts.anchors.trail ∙ sym sp.pattern.trailing;
         universe = h.pattern.universe ∙ sym sp.pattern.universe;
@@ -84,11 +84,11 @@ module _ (u : Universe) (flags : Flags) (drop out : Span → Bool) (w : List ℕ
       }
 
   -- There is a pattern that the remaining codes are read as.
-  pub cut_found : (new : Pattern) × IsParsed flags u the_codes (Ok new) × IsLeft drop out found new
+  pub cut_found : (new : Pattern) × IsParsed flags u the_codes (Ok new) × IsRemaining drop out found new
   cut_found = (the_new, (cuts.what, new_spelled), is_left the_new new_spelled)
 
   -- Whatever the result of parsing the remaining codes is.
-  pub cut_reads : (r : Result Pattern PatError) → IsParsed flags u the_codes r → (r ≡ Err error.OutOfMemory) ⊎ ((new : Pattern) × (r ≡ Ok new) × IsLeft drop out found new)
+  pub cut_reads : (r : Result Pattern PatError) → IsParsed flags u the_codes r → (r ≡ Err error.OutOfMemory) ⊎ ((new : Pattern) × (r ≡ Ok new) × IsRemaining drop out found new)
   cut_reads (Ok new) (q, h) = inr (new, refl, is_left new (subst (λ z. IsSpelled flags u the_codes new z) (same_whole q h.read.spelled) h))
   cut_reads (Err error.TooLong) h = absurd (omega (arith, h, shorter (stays u drop out whole.body) 0 w, sp.read.asked.short))
   cut_reads (Err (error.Outside p f)) (inl h) = absurd (none-some f (sym sp.read.asked.allowed ∙ h.refused))

@@ -7,7 +7,7 @@ use Rattle.rl_ranges.specs.declared.universe.Universe.{Universe}
 use Rattle.rl_pattern.specs.declared.flags.Flags.{Flags}
 use Rattle.rl_pattern.specs.Tree.{Span, span, Count, Greed, Kind, SyntaxNode, leaf, mark, repeat, group, nothing, seq, choice, Nodes, no_nodes, more_nodes, Branches, no_branches, more_branches, nodes, branches, Branch, branch_body, branch, whole_body, Front}
 use Rattle.rl_pattern.specs.Codes.{is_in, sign, TokenClass, left, right, bar, brace, slash, dot, bracket, times, edge, blank, sharp, plain, is_blank, is_digit, Numeral, numeral, low_digit, high_digit, no_digit, is_some_digit}
-use Rattle.rl_pattern.specs.Grammar.{At, Opening, captures, captures_named, groups, groups_on, groups_both, groups_off, looks_ahead, looks_behind, cuts, asks_number, asks_name, Quantifier, Passed, pass_blank, pass_line, pass_last_line, pass_comment, Blanks, SetHead, upright, inverted, Atom, literal, literal_brace, dotted, escaped, refers, bracketed, grouped, Item, once, repeated, edge_code, edge_escape, Items, no_items, pass_over, one_item, IsBranches, first_branch, next_branch, flag_group, Fronts, no_fronts, one_front}
+use Rattle.rl_pattern.specs.Grammar.{At, Opening, captures, captures_named, groups, groups_on, groups_both, groups_off, looks_ahead, looks_behind, cuts, asks_number, asks_name, Quantifier, Ignored, pass_blank, pass_line, pass_last_line, pass_comment, Blanks, SetHead, upright, inverted, Atom, literal, literal_brace, dotted, escaped, refers, bracketed, grouped, Item, once, repeated, edge_code, edge_escape, Items, no_items, pass_over, one_item, IsBranches, first_branch, next_branch, flag_group, Fronts, no_fronts, one_front}
 use Rattle.rl_pattern.specs.Shape.{is_text, shape}
 use Rattle.rl_pattern.specs.internal.Meeting.{is_open, goes_on, MayMeet}
 use Rattle.rl_pattern.proofs.Sifted.{Sifted}
@@ -120,7 +120,7 @@ module _ (text : Bool) (w : List ℕ) where
       ap is_open (same_code w t c 41 at_c (subst (λ m. At text w m 41) (sym same) z)) ∙ closed_codes.1
 
   -- What is spelled never begins with a question mark.
-  passed_calm : {fl : Flags} {i j : ℕ} → Passed text w fl i j → (c : ℕ) → At text w i c → IsCalm c
+  passed_calm : {fl : Flags} {i j : ℕ} → Ignored text w fl i j → (c : ℕ) → At text w i c → IsCalm c
   passed_calm (pass_blank {i = i} {c = d} x at_i is) c at_c = subst IsCalm (same_code w i d c at_i at_c) (blank_calm d is)
   passed_calm (pass_line {i = i} x at_i h z) c at_c = subst IsCalm (same_code w i 35 c at_i at_c) calm_codes.2
   passed_calm (pass_last_line {i = i} x at_i h) c at_c = subst IsCalm (same_code w i 35 c at_i at_c) calm_codes.2

@@ -8,7 +8,7 @@ use Rattle.rl_pattern.specs.declared.flags.Flags.{Flags}
 use Rattle.rl_pattern.specs.Tree.{span, Count, Greed, greedy, lazy, possessive, Escaped, Member, glyph, Kind, capturing, SyntaxNode, Branch, branch, Front, Whole}
 use Rattle.rl_pattern.specs.Codes.{TokenClass, sign, left, right, bar, brace, slash, dot, bracket, times, edge, blank, sharp, plain, is_blank, EscapeClass, slashed, single, kinds, hexes, naming, octal, low, high, edges, no_escape, counts, count_of, joined, inside, splits}
 use Rattle.rl_pattern.specs.internal.Signs.{SignIs}
-use Rattle.rl_pattern.specs.Grammar.{is_literal, outermost, At, Without, no_code, one_code, Escape, SetHead, upright, inverted, Stands, Opening, captures, Text, no_text, one_text, Braces, braces, Counts, by_code, by_braces, Quantifier, is_greedy, is_lazy, is_possessive, Passed, pass_blank, pass_line, pass_last_line, pass_comment, Blanks, no_blank, one_blank, Atom, literal, literal_brace, dotted, escaped, bracketed, grouped, Item, once, repeated, edge_code, edge_escape, Items, no_items, pass_over, one_item, IsBranches, first_branch, next_branch, FlagGroup, Fronts, no_fronts, one_front, spelled, Spells}
+use Rattle.rl_pattern.specs.Grammar.{is_literal, outermost, At, Without, no_code, one_code, Escape, SetHead, upright, inverted, SpelledAt, Opening, captures, Text, no_text, one_text, Braces, braces, Counts, by_code, by_braces, Quantifier, is_greedy, is_lazy, is_possessive, Ignored, pass_blank, pass_line, pass_last_line, pass_comment, Blanks, no_blank, one_blank, Atom, literal, literal_brace, dotted, escaped, bracketed, grouped, Item, once, repeated, edge_code, edge_escape, Items, no_items, pass_over, one_item, IsBranches, first_branch, next_branch, FlagGroup, Fronts, no_fronts, one_front, spelled, Spells}
 use Rattle.rl_pattern.specs.internal.Machine.{Frame, Last, nothing_yet, an_atom, Base, Lex, between, line, comment, in_braces, counted, at_slash, in_escape, in_head, set_open, in_class, State, at, settled, put, put_item, put_leaf, put_code, put_codes, no_count, put_repeat, count_last, all_branches, next_branch as next_branch_base, split, open_group, close, is_nil, is_settled, at_front, put_front, begin, by_sign, go_on, end_braces, braces_step, counted_step, escape_begins, slash_step, escape_step, head_stops, behind_paren, head_answer, set_answer, set_opens, set_step, Set, set_first, step, step_at, observe, finish_below, finish, finish_escape, finish_lex, finish_at, start, reads, InEscape, escape_first, escape_next, escape_rest, Answer, stops, goes, ends, InHead, paren, quest, after_p, after_less, group_name, group_name_goes, reference_name, reference_name_goes, asks, asks_digits, asks_name_goes, letters_on, letters_dash, letters_off, head_step, GroupStart, begins_group, begins_comment, is_reference, is_front}
 use Rattle.rl_pattern.proofs.Steps.{same_code}
 use Rattle.rl_pattern.proofs.Reading.{put_more, counts_plain, brace_not, text_length}
@@ -68,7 +68,7 @@ module _ (call : Flags) (text : Bool) (w : List ℕ) where
   abbrev pub LexOk : ℕ → Base → Lex → Type 0
   LexOk k b between = BaseOk k b
   LexOk k b line = (i : ℕ) × BaseOk i b × (b.top.flags.verbose ≡ true) × At text w i 35 × Without text w 10 (suc i) k
-  LexOk k b comment = (i : ℕ) × BaseOk i b × Stands text w i "(?#" × Without text w 41 (suc (suc (suc i))) k
+  LexOk k b comment = (i : ℕ) × BaseOk i b × SpelledAt text w i "(?#" × Without text w 41 (suc (suc (suc i))) k
   LexOk k b (in_braces a t) = BaseOk a b × At text w a 123 × Text text w (suc a) k t
   LexOk k b (counted a p q n) = (m : ℕ) × BaseOk a b × Atom text w b.top.flags a m p × Blanks text w b.top.flags m q × Counts text w q k n
   LexOk k b (at_slash a) = BaseOk a b × At text w a 92 × (k ≡ suc a)
@@ -92,14 +92,14 @@ module _ (call : Flags) (text : Bool) (w : List ℕ) where
   settled_ok fl i ps nothing_yet k h = h
   settled_ok fl i ps (an_atom a p) k (m, its, atom, bl) = items_blanks (one_item its (once atom)) bl
 
-  last_passed : (fl : Flags) (i : ℕ) (ps : List SyntaxNode) (l : Last) (j k : ℕ) → LastOk fl i ps l j → Passed text w fl j k → LastOk fl i ps l k
+  last_passed : (fl : Flags) (i : ℕ) (ps : List SyntaxNode) (l : Last) (j k : ℕ) → LastOk fl i ps l j → Ignored text w fl j k → LastOk fl i ps l k
   last_passed fl i ps nothing_yet j k h p = pass_over h p
   last_passed fl i ps (an_atom a q) j k (m, its, atom, bl) p = (m, its, atom, one_blank bl p)
 
   pub all_items : {k : ℕ} (b : Base) → BaseOk k b → Items text w b.top.flags b.top.from k (settled b.top.items b.last)
   all_items {k} b h = settled_ok b.top.flags b.top.from b.top.items b.last k h.last
 
-  passed_ok : {j k : ℕ} (b : Base) → BaseOk j b → Passed text w b.top.flags j k → BaseOk k b
+  passed_ok : {j k : ℕ} (b : Base) → BaseOk j b → Ignored text w b.top.flags j k → BaseOk k b
   passed_ok {j} {k} b h p = record { before = h.before; last = last_passed b.top.flags b.top.from b.top.items b.last j k h.last p; below = h.below }
 
   put_ok : {a j : ℕ} (b : Base) (p : SyntaxNode) → BaseOk a b → Atom text w b.top.flags a j p → BaseOk j (put b a p)

@@ -6,7 +6,7 @@ use Rattle.rl_pattern.specs.declared.flags.Flags.{Flags}
 use Rattle.rl_pattern.specs.Tree.{Span, span, Kind, capturing, named, scoped, lookaround, atomic, conditional, SyntaxNode, leaf, mark, repeat, group, nothing, seq, choice, Nodes, no_nodes, more_nodes, Branches, no_branches, more_branches, nodes, branches, Branch, branch_body, branch, whole_body, Assertion, caret, text_start, dollar, text_end, boundary, Whole}
 use Rattle.rl_pattern.specs.Grammar.{Atom, literal, literal_brace, dotted, escaped, refers, bracketed, grouped, Item, once, repeated, edge_code, edge_escape, Items, no_items, pass_over, one_item, IsBranches, first_branch, next_branch, spelled, Spells}
 use Rattle.rl_pattern.specs.Shape.{shape, shapes, branch_shapes, group_shape, mark_shape}
-use Rattle.rl_pattern.specs.Cut.{choice_of, left, left_items, left_branches}
+use Rattle.rl_pattern.specs.Cut.{choice_of, remaining, remaining_items, remaining_branches}
 use Rattle.rl_pattern.proofs.Merged.{MayMerge, AllMayMerge, BranchesMayMerge, MergesUnder, MergesIn}
 use Rattle.rl_pattern.specs.Suggested.{no_span}
 use Rattle.rl_pattern.proofs.Tokens.{escape_lt, name_lt, set_head_lt, members_lt, blanks_le, quantifier_lt, passed_lt, opening_lt}
@@ -111,10 +111,10 @@ module _ (u : Universe) where
       inside : (least : ℕ) (most : Option ℕ) → MergesIn out t least most → Somewhere t
 
     abbrev pub rest : s.PatTree → s.PatTree
-    rest t = left drop no_span t
+    rest t = remaining drop no_span t
 
     abbrev pub rest_branches : Branches → s.BranchTrees
-    rest_branches bs = left_branches drop no_span (s.branches_of (branch_shapes u bs))
+    rest_branches bs = remaining_branches drop no_span (s.branches_of (branch_shapes u bs))
 
     repeat_somewhere : (r q : Span) (l : ℕ) (m : Option ℕ) (g : Bool) (t : s.PatTree) → Somewhere (s.repeat r q l m g t) → Somewhere t
     repeat_somewhere r q l m g t (at_large (e, h)) = under l m h
@@ -184,10 +184,10 @@ module _ (u : Universe) where
       clean_of (repeat r q n g p) gd h = clean_of p gd (repeat_somewhere r q n.least n.most _ (rest (shape u p)) h)
       clean_of (group r k p) gd h = clean_of p gd.1 (group_somewhere r k (shape u p) gd.0 h)
       clean_of (nothing r) gd h = tt
-      clean_of (seq r ps) gd h = items_clean ps gd (seq_somewhere r (left_items drop no_span (s.items_of (shapes u ps))) h)
+      clean_of (seq r ps) gd h = items_clean ps gd (seq_somewhere r (remaining_items drop no_span (s.items_of (shapes u ps))) h)
       clean_of (choice r bs) gd h = choice_clean bs r gd.1 h
 
-      pub items_clean : (ps : Nodes) → AllGood u drop out ps → AllMayMerge out (left_items drop no_span (s.items_of (shapes u ps))) → AllClean u drop out ps
+      pub items_clean : (ps : Nodes) → AllGood u drop out ps → AllMayMerge out (remaining_items drop no_span (s.items_of (shapes u ps))) → AllClean u drop out ps
       items_clean no_nodes gd h = tt
       items_clean (more_nodes p ps) gd h = (own_false p h.0, clean_of p gd.0 (at_large h.0), items_clean ps gd.1 h.1)
 

@@ -1,4 +1,6 @@
--- What single characters mean in the grammar of patterns.
+-- What single characters mean in the grammar of patterns. A code is a character of the pattern as a number: a code point in a
+-- `str`, a byte in a `bytes`. An item is an atom, such as a literal or a group, with its quantifier if it has one, or an
+-- anchor or a word boundary. A class is a set of characters in brackets; a named class is an escape such as `\d`.
 use Prim.Native.Char.{Char}
 use Prim.Native.String.{String}
 use Rattle.std.specs.Prelude.{[], ℕ, ◌+◌, ◌-◌, ◌*◌, Bool, true, false, not, ◌&&◌, ◌||◌, if◌then◌else◌, nat_le, ◌==◌, List, ◌∷◌, Option, Some, None, min, codes}
@@ -15,15 +17,15 @@ pub use Rattle.rl_pattern.specs.declared.lex.GroupPrefix.{GroupPrefix}
 pub use Rattle.rl_pattern.specs.declared.lex.GroupPrefix.TheVariants.{Letter as letter, Colon as colon, Minus as minus, LetterP as letter_p, Sharps as sharps, Less as less, Greater as greater, Condition as condition, Looks as looks, NoHead as no_head}
 use Rattle.rl_pattern.specs.Tree.{Count, digits, spaces, words, caret, text_start, dollar, text_end, boundary, Escaped, code, too_large, kind, Kind, scoped, conditional, Branch}
 
--- Whether `c` is the code of this character.
+-- Whether `c` is the code of `character`.
 abbrev pub is : Char → ℕ → Bool
 is character c = c == code_of character
 
--- Whether `c` is the code of one of these characters.
+-- Whether `c` is the code of one of the characters of `characters`.
 abbrev pub is_in : String → ℕ → Bool
 is_in characters c = list_any (λ d. c == d) (codes characters)
 
--- Whether `c` lies between the codes of these two characters, both included.
+-- Whether `c` lies between the codes of `first` and `last`, both included.
 abbrev pub is_from : Char → Char → ℕ → Bool
 is_from first last c = nat_le (code_of first) c && nat_le c (code_of last)
 
@@ -31,11 +33,12 @@ is_from first last c = nat_le (code_of first) c && nat_le c (code_of last)
 abbrev pub is_blank : ℕ → Bool
 is_blank c = is " " c || is_from "\t" "\r" c
 
--- A repeat count with this minimum and maximum.
+-- The repeat count with minimum `m` and maximum `n`. If `n` is `None`, there is no maximum.
 abbrev pub count : ℕ → Option ℕ → Count
 count m n = record { least = m; most = n }
 
--- The class of a character between items, which decides how the grammar goes on.
+-- The token class of the code `c` between items. For example, `|` is a `bar`, and `*`, `+` and `?` are
+-- counts (`times`). A code that always means itself there is `plain`.
 unfoldable pub sign : ℕ → TokenClass
 sign c =
     if is "(" c then left
@@ -54,14 +57,15 @@ sign c =
     else (if is_blank c then blank
     else plain)))))))))))))
 
--- The class of a character in an octal number: an octal digit with its value, 8 or 9, or no digit.
+-- The class of the code `c` as a digit: `low_digit` with its value for 0 to 7, `high_digit` for 8 and 9, and `no_digit` for
+-- any other code.
 unfoldable pub numeral : ℕ → Numeral
 numeral c =
     if is_from "0" "7" c then low_digit (c - code_of "0")
     else (if is_from "8" "9" c then high_digit
     else no_digit)
 
--- Whether the class is that of a digit.
+-- Whether the class is `low_digit` or `high_digit`.
 abbrev pub is_some_digit : Numeral → Bool
 is_some_digit no_digit = false
 is_some_digit _ = true
@@ -70,7 +74,7 @@ is_some_digit _ = true
 unfoldable pub is_digit : ℕ → Bool
 is_digit c = is_some_digit (numeral c)
 
--- The value of a hexadecimal digit, or `None` for any other code.
+-- The value of a hexadecimal digit, in either case, or `None` if `c` isn't one.
 unfoldable pub hex : ℕ → Option ℕ
 hex c =
     if is_from "0" "9" c then Some (c - code_of "0")
@@ -82,16 +86,21 @@ hex c =
 abbrev pub is_letter : ℕ → Bool
 is_letter c = is_from "a" "z" c || is_from "A" "Z" c
 
--- Whether a name may begin with the code. The flag says whether the pattern is a `str`.
+-- Whether a group name may begin with the code `c`: an ASCII letter, `_`, or any code from 128 on if `text` is `true`, that
+-- is, in a `str`.
 unfoldable pub begins_name : Bool → ℕ → Bool
 begins_name text c = is_letter c || is "_" c || (text && nat_le 0x80 c)
 
--- Whether the code may occur in a name after its start. The flag says whether the pattern is a `str`.
+-- Whether the code `c` may follow in a group name: a code with which a name may begin, or an ASCII digit. `text` says whether
+-- the pattern is a `str`.
 unfoldable pub goes_in_name : Bool → ℕ → Bool
 goes_in_name text c = begins_name text c || is_digit c
 
--- The escape that a letter after a backslash begins. The flags say whether the pattern is a `str` and whether the escape is
--- in a class. BEL is 7, backspace 8, vertical tab 11 and form feed 12.
+-- What the ASCII letter `c` means after a backslash, or `no_escape` if it can't follow one. `text` says whether the pattern
+-- is a `str`: only in a `str` are `\u`, `\U` and `\N` escapes. `in_class` says whether the escape is in a class: there `\b` is
+-- a backspace, and `\A`, `\B` and `\Z` are no escapes. The numbers after `single` are the codes of BEL (7), backspace (8),
+-- vertical tab (11) and form feed (12); the one after `hexes` is the number of digits that follow; and `true` after `kinds`
+-- means the complement.
 abbrev pub slashed_letter : Bool → Bool → ℕ → EscapeClass
 slashed_letter text in_class c =
     if is "a" c then single 7
@@ -116,40 +125,43 @@ slashed_letter text in_class c =
     else (if not in_class && is "Z" c then edges text_end
     else no_escape)))))))))))))))))))
 
--- The escape that a character other than a letter begins after a backslash. The flag says whether the escape is in a class.
+-- What the code `c`, which isn't a letter, means after a backslash, given its class as a digit. `in_class` says whether the
+-- escape is in a class. There each of the digits 0 to 7 begins an octal number, and `\8` and `\9` are no escapes. Outside a
+-- class only 0 surely begins one: 1 to 7 begin three octal digits or a reference, and 8 and 9 a reference. A code that isn't a
+-- digit means itself.
 abbrev pub slashed_digit : Bool → Numeral → ℕ → EscapeClass
 slashed_digit in_class (low_digit d) c = if in_class || d == 0 then octal d else low d
 slashed_digit in_class high_digit c = if in_class then no_escape else high
 slashed_digit in_class no_digit c = single c
 
--- The escape that a character after a backslash begins. The flags say whether the pattern is a `str` and whether the escape
--- is in a class.
+-- What the code `c` means after a backslash, or `no_escape` if it can't follow one. `text` says whether the pattern is a
+-- `str`, and `in_class` whether the escape is in a class.
 unfoldable pub slashed : Bool → Bool → ℕ → EscapeClass
 slashed text in_class c =
     if is_letter c then slashed_letter text in_class c else slashed_digit in_class (numeral c) c
 
--- The code that an octal escape denotes. A number greater than 255 is too large.
+-- What an octal escape with the value `n` denotes: the code `n`, or `too_large` if `n` is greater than 255.
 abbrev pub octal_code : ℕ → Escaped
 octal_code n = if nat_le n 255 then code n else too_large
 
--- The code that a hexadecimal escape denotes. A number greater than 0x10FFFF is too large.
+-- What a hexadecimal escape with the value `n` denotes: the code `n`, or `too_large` if `n` is greater than 0x10FFFF.
 abbrev pub hex_code : ℕ → Escaped
 hex_code n = if nat_le n 0x10FFFF then code n else too_large
 
--- Whether the escape is a named class.
+-- Whether the escape is a named class: `\d`, `\s`, `\w`, `\D`, `\S` or `\W`.
 abbrev pub is_kind : Escaped → Bool
 is_kind (kind k n) = true
 is_kind _ = false
 
--- Whether the code is a flag letter, which may precede a `-`.
+-- Whether the code is one of the flag letters `aiLmsux`, which a group can turn on.
 unfoldable pub on_letter : ℕ → Bool
 on_letter c = is_in "aiLmsux" c
 
--- Whether the code is a flag letter that may follow a `-`.
+-- Whether the code is one of the flag letters `imsx`, which a group can turn off after a `-`.
 unfoldable pub off_letter : ℕ → Bool
 off_letter c = is_in "imsx" c
 
--- The class of a character after `(?`, which decides what kind of group begins.
+-- The class of the code `c` after `(?`, which decides what the parenthesis begins. A code that can't follow `(?` is `no_head`.
 unfoldable pub headed : ℕ → GroupPrefix
 headed c =
     if on_letter c then letter
@@ -163,11 +175,11 @@ headed c =
     else (if is "(" c then condition
     else no_head))))))))
 
--- Flags of which none is set.
+-- The flags of which none is set.
 abbrev pub no_flags : Flags
 no_flags = record { ignore_case = false; multiline = false; dot_all = false; verbose = false; ascii = false; unicode = false; locale = false }
 
--- The flags with one more letter set.
+-- The flags `f` with the flag of the letter `c` set too. A code that isn't a flag letter sets none.
 unfoldable pub with_letter : Flags → ℕ → Flags
 with_letter f c =
     record {
@@ -180,7 +192,8 @@ with_letter f c =
       locale = f.locale || is "L" c;
     }
 
--- The flags in force after a flag group at the front of the pattern: a flag is set if either argument sets it.
+-- The flags in force after a flag group with the letters `g` at the front of the pattern, if `f` were in force before: a flag
+-- is set if it is set in either.
 unfoldable pub joined : Flags → Flags → Flags
 joined f g =
     record {
@@ -193,8 +206,9 @@ joined f g =
       locale = f.locale || g.locale;
     }
 
--- The flags within a group that has letters before and after its `-`. A letter on both sides is off, and ASCII and UNICODE
--- turn each other off.
+-- The flags in force inside a group with the letters `on` before its `-` and `off` after it, if `f` are in force around it. Of
+-- `imsx`, a letter in both is off. The letter `a` turns UNICODE off unless `u` is there too, and `u` turns ASCII off unless
+-- `a` is.
 unfoldable pub scoped_flags : Flags → Flags → Flags → Flags
 scoped_flags on off f =
     record {
@@ -207,17 +221,18 @@ scoped_flags on off f =
       locale = on.locale || f.locale;
     }
 
--- The flags inside a group of this kind.
+-- The flags in force inside a group of this kind, if `f` are in force around it. Only flag letters change them.
 abbrev pub inside : Kind → Flags → Flags
 inside (scoped on off) f = scoped_flags on off f
 inside _ f = f
 
--- Whether a `|` may follow these branches. Only a conditional is limited: it has at most two branches.
+-- Whether a `|` may follow, in a group of this kind, after the branches in the list. In a conditional it may if there is at
+-- most one of them. In any other group it always may.
 abbrev pub splits : Kind → List Branch → Bool
 splits conditional (b ∷ c ∷ bs) = false
 splits _ _ = true
 
--- A number in base `b` with one more digit. Numbers from 4294967295 on are all represented by 4294967295.
+-- The number `n` in base `b` with the digit `d` appended, but at most 4294967295, which represents all larger numbers too.
 abbrev pub with_digit : ℕ → ℕ → ℕ → ℕ
 with_digit b n d = min (n * b + d) 4294967295
 
@@ -225,24 +240,27 @@ with_digit b n d = min (n * b + d) 4294967295
 unfoldable pub counts : ℕ → Bool
 counts c = is_digit c || is "," c
 
--- The count with minimum `m` whose maximum begins with the digits of `n` and continues with the given codes. A second comma
--- makes it no count.
+-- The count with minimum `m` whose maximum has digits with the value `n`, followed by the given digits and commas. A comma
+-- makes it no count (`None`). A maximum that is too large is kept as 4294967295. The minimum may be larger than the maximum.
 abbrev pub most_of : ℕ → ℕ → List ℕ → Option Count
 most_of m n [] = Some (count m (Some n))
 most_of m n (c ∷ cs) = if is "," c then None else most_of m (with_digit 10 n (c - code_of "0")) cs
 
--- The count with minimum `m` whose comma is followed by the given codes. Without a maximum there is no bound.
+-- The count with minimum `m` if the given digits and commas follow its comma. Without a further digit there is no maximum. A
+-- second comma makes it no count (`None`).
 abbrev pub upper_of : ℕ → List ℕ → Option Count
 upper_of m [] = Some (count m None)
 upper_of m (c ∷ cs) = most_of m 0 (c ∷ cs)
 
--- The count whose minimum begins with the digits of `m` and continues with the given codes.
+-- The count whose minimum has digits with the value `m`, followed by the given digits and commas. Without a comma, the maximum
+-- equals the minimum. A second comma makes it no count (`None`).
 abbrev pub least_of : ℕ → List ℕ → Option Count
 least_of m [] = Some (count m (Some m))
 least_of m (c ∷ cs) = if is "," c then upper_of m cs else least_of (with_digit 10 m (c - code_of "0")) cs
 
--- The count that a text of digits and commas spells between braces, or `None`. It has one of the forms `m`, `m,`, `,n`,
--- `m,n` and `,`.
+-- The count that a text of digits and commas spells between braces. The text has one of the forms `m`, `m,`, `,n`, `m,n` and
+-- `,`. Any other, such as the empty text or `1,2,3`, gives `None`. In the form `m` the maximum is `m`. Otherwise, a missing
+-- minimum is 0, and a missing maximum means that there is no bound.
 unfoldable pub count_of : List ℕ → Option Count
 count_of [] = None
 count_of (c ∷ cs) = least_of 0 (c ∷ cs)

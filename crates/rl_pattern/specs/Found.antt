@@ -1,4 +1,8 @@
--- What is refused in a syntax tree, and what is left of the tree if nothing is refused.
+-- What is refused in a syntax tree, and what is left of the tree if nothing is refused. A fault is a feature that is refused,
+-- with its position. Positions count codes from 0. Of several faults the one that is reported is the first by position and, at
+-- the same position, by rank. The outer anchors of a pattern with only one branch are the leading ones at its start, `\A` or
+-- `^`, and the trailing ones at its end, `\Z` or `$`. `^` and `$` are among them only where MULTILINE isn't in
+-- force.
 use Rattle.std.specs.Prelude.{ℕ, Bool, true, false, not, ◌&&◌, ◌||◌, if◌then◌else◌, nat_lt, nat_le, ◌==◌, List, [], ◌∷◌, ◌++◌, reverse, flat_map, Option, Some, None}
 use Rattle.std.specs.List.{list_any}
 use Rattle.std.specs.Str.{bytes_eq}
@@ -28,60 +32,65 @@ rank is_atomic = 11
 rank is_named_escape = 12
 rank is_inner_anchor = 13
 
--- The fault of this feature at this position.
+-- The fault of the feature `f` at position `i`.
 abbrev pub fault : ℕ → Feature → Fault
 fault i f = record { place = i; what = f }
 
--- A list of the one fault if the flag is `true`, otherwise an empty list.
+-- A list with only the fault of the feature `f` at position `i` if the flag is `true`, otherwise the empty list.
 abbrev pub fault_if : Bool → ℕ → Feature → List Fault
 fault_if true i f = fault i f ∷ []
 fault_if false i f = []
 
--- Whether the first fault is reported before the second. It is if its position is less, or if the positions are equal and
--- its rank isn't greater.
+-- Whether the fault `a` is reported rather than `b`: its position is less, or the positions are equal and its rank isn't
+-- greater.
 abbrev pub comes_first : Fault → Fault → Bool
 comes_first a b = nat_lt a.place b.place || (a.place == b.place && nat_le (rank a.what) (rank b.what))
 
--- The fault that is reported of two, either of which may be missing.
+-- The one of two faults that is reported, either of which may be missing. If both are missing, the result is `None`.
 abbrev pub earlier : Option Fault → Option Fault → Option Fault
 earlier None b = b
 earlier a None = a
 earlier (Some a) (Some b) = if comes_first a b then Some a else Some b
 
--- The fault that is reported of a list.
+-- The fault in a list that is reported: the first by position, and among those at the same position the one with the lowest
+-- rank. It is `None` if the list is empty.
 abbrev pub first_fault : List Fault → Option Fault
 first_fault [] = None
 first_fault (a ∷ faults) = earlier (Some a) (first_fault faults)
 
--- The faults of a character or escape at this position.
+-- The faults of a character or escape at position `i`. A number that is too large to be a code, a character by name (`\N{..}`)
+-- and a reference to a group are refused. Anything else has none.
 abbrev pub escaped_faults : ℕ → Escaped → List Fault
 escaped_faults i too_large = fault i is_code_too_large ∷ []
 escaped_faults i by_name = fault i is_named_escape ∷ []
 escaped_faults i reference = fault i is_backreference ∷ []
 escaped_faults i _ = []
 
--- Whether the first code of a range is greater than its last.
+-- Whether both sides of a range are codes and the first is greater than the last.
 abbrev pub reversed : Escaped → Escaped → Bool
 reversed (code c) (code d) = nat_lt d c
 reversed _ _ = false
 
--- The faults of a class member. Their position is that of the member.
+-- The faults of a class member, all at the position at which it begins: those of its sides, and that it is a range whose first
+-- code is greater than its last.
 abbrev pub member_faults : Member → List Fault
 member_faults (one s e) = escaped_faults s.from e
 member_faults (range s e d) = escaped_faults s.from e ++ (escaped_faults s.from d ++ fault_if (reversed e d) s.from is_reversed_range)
 
--- The faults of a leaf: a character, an escape or a class.
+-- The faults of a leaf with span `s`: for a character, an escape or a reference its own, at the start of the span; for a class
+-- those of its members, in order. A `.` has none.
 abbrev pub leaf_faults : Span → Leaf → List Fault
 leaf_faults s any = []
 leaf_faults s (glyph e) = escaped_faults s.from e
 leaf_faults s (members inverse ms) = flat_map member_faults ms
 
--- The faults of an anchor or word boundary: a `$` without MULTILINE that isn't an outer anchor is refused.
+-- The faults of an anchor or word boundary with span `s` and flags `f`: only a `$` without MULTILINE is refused. Outer anchors
+-- have been removed before.
 abbrev pub mark_faults : Span → Flags → Assertion → List Fault
 mark_faults s f dollar = fault_if (not f.multiline) s.from is_inner_anchor
 mark_faults s f _ = []
 
--- Whether there is a maximum, and it satisfies the test.
+-- Whether the maximum of a quantifier satisfies the test. It is `false` if there is no maximum (`None`).
 abbrev pub is_bound : (ℕ → Bool) → Option ℕ → Bool
 is_bound test None = false
 is_bound test (Some n) = test n
@@ -91,17 +100,19 @@ abbrev pub is_possessive : Greed → Bool
 is_possessive possessive = true
 is_possessive _ = false
 
--- The faults of a quantifier at this position: a bound that is too large, a maximum less than the minimum, or being
--- possessive.
+-- The faults of a quantifier at position `i`: a bound that is too large (4294967295, which represents all larger numbers too),
+-- a maximum less than the minimum, or being possessive.
 abbrev pub count_faults : ℕ → Count → Greed → List Fault
 count_faults i n g =
     fault_if (n.least == 4294967295 || is_bound (λ m. m == 4294967295) n.most) i is_repeat_too_large ++ (fault_if (is_bound (λ m. nat_lt m n.least) n.most) i is_repeat_order ++ fault_if (is_possessive g) i is_possessive_count)
 
--- Whether some flag letter is on both sides of a `-`.
+-- Whether one of the letters `imsx` is in both lists of flag letters, those before the `-` of a group and those after it.
 abbrev pub overlap : Flags → Flags → Bool
 overlap f g = (f.ignore_case && g.ignore_case) || ((f.multiline && g.multiline) || ((f.dot_all && g.dot_all) || (f.verbose && g.verbose)))
 
--- The faults of a group's head at this position, apart from its name. The flag says whether the pattern is a `str`.
+-- The faults at the head of a group of this kind at position `i`, except a duplicate name: the letter `L`, letters that
+-- exclude each other, or that the group is a lookaround, an atomic group or a conditional. The letters exclude each other if
+-- `u` comes with `a` or in a `bytes`, or if a letter is on both sides of the `-`. `text` says whether the pattern is a `str`.
 abbrev pub kind_faults : Bool → ℕ → Kind → List Fault
 kind_faults text i (scoped on off) = fault_if on.locale i is_locale ++ fault_if (on.unicode && (on.ascii || not text) || overlap on off) i is_flag_clash
 kind_faults text i lookaround = fault i is_lookaround ∷ []
@@ -109,7 +120,7 @@ kind_faults text i atomic = fault i is_atomic ∷ []
 kind_faults text i conditional = fault i is_conditional ∷ []
 kind_faults text i _ = []
 
--- The faults of a node, apart from duplicate group names. The flag says whether the pattern is a `str`.
+-- The faults of a node and the nodes in it, except duplicate group names. `text` says whether the pattern is a `str`.
 abbrev mutual
   pub node_faults : Bool → SyntaxNode → List Fault
   node_faults text (leaf s f x) = leaf_faults s x
@@ -120,22 +131,23 @@ abbrev mutual
   node_faults text (seq s ps) = nodes_faults text ps
   node_faults text (choice s bs) = branches_faults text bs
 
-  -- The faults of a sequence of nodes.
+  -- The faults in a sequence of nodes, in order.
   pub nodes_faults : Bool → Nodes → List Fault
   nodes_faults text no_nodes = []
   nodes_faults text (more_nodes p ps) = node_faults text p ++ nodes_faults text ps
 
-  -- The faults of the branches of a choice.
+  -- The faults in the branches of a choice, in order.
   pub branches_faults : Bool → Branches → List Fault
   branches_faults text no_branches = []
   branches_faults text (more_branches s p bs) = node_faults text p ++ branches_faults text bs
 
--- The name of a group, and the position of its parenthesis.
+-- A group name in a pattern: the codes of the name, and as `place` the position of the opening parenthesis of its group.
 pub record Called : Type 0 where
   pub place : ℕ
   pub name : List ℕ
 
--- The name of a group of this kind at this position, as a list. The list is empty if the group has no name.
+-- A list with only the name of a group of this kind whose parenthesis is at position `i`, or the empty list if the group has
+-- no name.
 abbrev pub kind_names : ℕ → Kind → List Called
 kind_names i (named n) = record { place = i; name = n } ∷ []
 kind_names i _ = []
@@ -161,16 +173,19 @@ abbrev mutual
   branches_names no_branches = []
   branches_names (more_branches s p bs) = node_names p ++ branches_names bs
 
--- The faults of group names: each name of the second list that occurs earlier in it or in the list `before`.
+-- The duplicate names in the second list, as faults at the positions of their groups, in order. A name is a duplicate if it
+-- occurs earlier in that list or in the list `before`.
 abbrev pub name_faults : List Called → List Called → List Fault
 name_faults before [] = []
 name_faults before (c ∷ cs) = fault_if (list_any (λ d. bytes_eq c.name d.name) before) c.place is_duplicate_name ++ name_faults (before ++ c ∷ []) cs
 
--- The faults of one flag group at the front, given the flags before it. The flag says whether the pattern is a `str`.
+-- The faults of one flag group `g` at the front, at its position, if the flags `f` are in force before it: `L`; one of `a` and
+-- `u` if the other is set too, in the group or before it; and `u` in a `bytes`. `text` says whether the pattern is a `str`.
 abbrev pub front_own : Bool → Flags → Front → List Fault
 front_own text f g = fault_if g.letters.locale g.place.from is_locale ++ fault_if (g.letters.ascii && (f.unicode || g.letters.unicode) || g.letters.unicode && (f.ascii || not text)) g.place.from is_flag_clash
 
--- The faults of all flag groups at the front, given the flags before them.
+-- The faults of the flag groups at the front. The flags `f` are in force before the first of them. `text` says whether the
+-- pattern is a `str`.
 abbrev pub front_faults : Bool → Flags → List Front → List Fault
 front_faults text f [] = []
 front_faults text f (g ∷ gs) = front_own text f g ++ front_faults text (joined f g.letters) gs
@@ -181,79 +196,88 @@ is_leading (mark s f text_start) = true
 is_leading (mark s f caret) = not f.multiline
 is_leading _ = false
 
--- The trailing anchor that the node is, if it is one: `\Z`, or `$` without MULTILINE.
+-- The trailing anchor that the node is: `end_trail` for `\Z`, `dollar_trail` for `$` without MULTILINE, and `no_trail` for any
+-- other node.
 abbrev pub trail_of : SyntaxNode → Trail
 trail_of (mark s f text_end) = end_trail
 trail_of (mark s f dollar) = if f.multiline then no_trail else dollar_trail
 trail_of _ = no_trail
 
--- The list without its longest prefix of items that satisfy the test.
+-- The list without its longest prefix of items that all satisfy the test.
 abbrev pub without_run : {X : Type 0} → (X → Bool) → List X → List X
 without_run test [] = []
 without_run test (x ∷ xs) = if test x then without_run test xs else x ∷ xs
 
--- Whether the first item is an anchor that can be a leading one.
+-- Whether the first item is an anchor that can be a leading one. If there are no items, it is `false`.
 abbrev pub begins_leading : List SyntaxNode → Bool
 begins_leading [] = false
 begins_leading (p ∷ ps) = is_leading p
 
--- The trailing anchor that a run of them amounts to, given its first one and the rest of the run: `\Z` if one of them is
--- `\Z`.
+-- The trailing anchor that a run of trailing anchors amounts to, given its first one, and what the rest of the run amounts to
+-- (`no_trail` if there is no rest): `\Z` if either is `\Z`, otherwise `$`. If the first one is `no_trail`, there is no run,
+-- and the result is `no_trail`.
 abbrev pub run_of : Trail → Trail → Trail
 run_of dollar_trail end_trail = end_trail
 run_of t _ = t
 
--- The trailing anchor that the longest run of them amounts to. The items are in reverse order.
+-- The trailing anchor that the longest run of them at the end of a branch amounts to, or `no_trail` if there is none. The
+-- items are in reverse order, so the run is at the front.
 abbrev pub trailing_run : List SyntaxNode → Trail
 trailing_run [] = no_trail
 trailing_run (p ∷ ps) = run_of (trail_of p) (trailing_run ps)
 
--- Whether the trailing anchor is one at all.
-abbrev pub drops : Trail → Bool
-drops no_trail = false
-drops _ = true
+-- Whether the trailing anchor isn't `no_trail`.
+abbrev pub is_some_trail : Trail → Bool
+is_some_trail no_trail = false
+is_some_trail _ = true
 
--- The items without the longest runs of leading and trailing anchors.
+-- The items without the longest run of leading anchors at their start, and without the longest run of trailing anchors at
+-- their end.
 abbrev pub inner_items : List SyntaxNode → List SyntaxNode
-inner_items ps = reverse (without_run (λ p. drops (trail_of p)) (reverse (without_run is_leading ps)))
+inner_items ps = reverse (without_run (λ p. is_some_trail (trail_of p)) (reverse (without_run is_leading ps)))
 
 -- The nodes as a list.
 abbrev pub listed : Nodes → List SyntaxNode
 listed no_nodes = []
 listed (more_nodes p ps) = p ∷ listed ps
 
--- The items of a body of one branch, or `None` if the body has several branches.
+-- The items of a body of one branch, or `None` if the body is a choice. An empty body has no items, and a node that is neither
+-- a sequence nor a choice is the only item.
 abbrev pub items_of : SyntaxNode → Option (List SyntaxNode)
 items_of (nothing s) = Some []
 items_of (seq s ps) = Some (listed ps)
 items_of (choice s bs) = None
 items_of p = Some (p ∷ [])
 
--- A pattern without its outer anchors: the rest of its body, whether there was a leading anchor, and the trailing anchor.
+-- A pattern without its outer anchors: what is left of its body, whether there was a leading anchor, and the trailing anchor
+-- that its trailing anchors amount to (`no_trail` if there were none).
 pub record Inner : Type 0 where
   pub body : SyntaxNode
   pub leading : Bool
   pub trail : Trail
 
--- The body without its outer anchors, given its span and its items. If there are several branches, nothing is removed.
+-- The body `p`, which has the span `s`, without its outer anchors. If the body has one branch, its items are given. If there
+-- are several branches (`None`), nothing is removed.
 abbrev pub inner_of : Span → SyntaxNode → Option (List SyntaxNode) → Inner
 inner_of s p None = record { body = p; leading = false; trail = no_trail }
 inner_of s p (Some ps) = record { body = branch_body s (inner_items ps); leading = begins_leading ps; trail = trailing_run (reverse ps) }
 
--- The whole pattern without its outer anchors.
+-- The whole pattern without its outer anchors: what is left of its body, and which anchors were removed.
 abbrev pub inner : Whole → Inner
 inner p = inner_of p.place p.body (items_of p.body)
 
 -- All faults of a whole pattern: in its flag groups, in its group names, and in the nodes that are left without the outer
--- anchors.
+-- anchors. `call` has the flags of the call, and `text` says whether the pattern is a `str`.
 abbrev pub whole_faults : Flags → Bool → Whole → List Fault
 whole_faults call text p = front_faults text call p.fronts ++ (name_faults [] (node_names p.body) ++ node_faults text (inner p).body)
 
--- The fault that is reported of a whole pattern, or `None` if nothing is refused.
+-- The fault that is reported of a whole pattern, or `None` if nothing in it is refused. `call` has the flags of the call, and
+-- `text` says whether the pattern is a `str`.
 abbrev pub refused : Flags → Bool → Whole → Option Fault
 refused call text p = first_fault (whole_faults call text p)
 
--- The reason to refuse the flags of the call, or `None`: LOCALE, or UNICODE together with ASCII or in a `bytes` pattern.
+-- The reason to refuse the flags `f` of the call, or `None`: LOCALE, or UNICODE together with ASCII or for a `bytes` pattern.
+-- `text` says whether the pattern is a `str`.
 abbrev pub refused_flags : Flags → Bool → Option Feature
 refused_flags f text =
     if f.locale then Some is_locale else (if f.unicode && (f.ascii || not text) then Some is_flag_clash else None)

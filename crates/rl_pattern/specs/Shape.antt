@@ -1,5 +1,6 @@
--- Turning a syntax tree in which nothing is refused into a pattern over a universe. A group that is refused becomes
--- `outside`.
+-- Turning a syntax tree in which nothing is refused into a pattern over a universe. A group that is refused becomes `outside`.
+-- A leaf is a node that matches one character, or a reference to a group: a `.`, a character, an escape or a class. A named
+-- class is an escape such as `\d`. A universe has the codes of a `str` or of a `bytes`, from 0 up to `code_count`.
 use Rattle.std.specs.Prelude.{ℕ, zero, suc, Bool, true, false, not, if◌then◌else◌, nat_lt, nat_le, ◌==◌, ◌&&◌, ◌||◌, List, [], ◌∷◌}
 use Rattle.std.specs.List.{list_any}
 use Rattle.rl_ranges.specs.Text.{code_count}
@@ -13,73 +14,75 @@ use Rattle.rl_pattern.specs.declared.flags.Flags.{Flags}
 use Rattle.rl_pattern.specs.Tree.{Span, Named, Greed, greedy, Escaped, code, kind, Member, one, range, Leaf, any, glyph, members, Assertion, caret, text_start, dollar, text_end, boundary, Kind, scoped, lookaround, atomic, conditional, SyntaxNode, leaf, mark, repeat, group, nothing, seq, choice, Nodes, no_nodes, more_nodes, Branches, no_branches, more_branches}
 use Rattle.rl_pattern.specs.Found.{is_lookaround, is_atomic, is_conditional}
 
--- Whether the universe is that of `str`.
+-- Whether it is the universe of `str`, not of `bytes`.
 abbrev pub is_text : Universe → Bool
 is_text Str = true
 is_text Bytes = false
 
--- Whether some number below `n` satisfies the test.
+-- Whether some number less than `n` satisfies the test.
 unfoldable pub some_below : ℕ → (ℕ → Bool) → Bool
 some_below zero test = false
 some_below (suc n) test = test n || some_below n test
 
--- Whether the set, closed under case, holds the code: some code of the universe in the set is case kin to it.
+-- Whether the set, closed under case, holds the code `c`: some code of the universe in the set is `c`, or is case kin to it,
+-- which means that both are cases of one letter. `ascii` says whether letter case follows ASCII.
 abbrev pub closed_holds : Universe → Bool → (ℕ → Bool) → ℕ → Bool
 closed_holds u ascii set c = some_below (code_count u) (λ d. set d && is_case_kin ascii d c)
 
--- Whether the code is in the universe and in the set.
+-- Whether the code `c` is in the universe and in the set.
 abbrev pub within : Universe → (ℕ → Bool) → ℕ → Bool
 within u set c = nat_lt c (code_count u) && set c
 
 -- Which codes a leaf matches, over a universe and under flags.
 module _ (u : Universe) (fl : Flags) where
-  -- Whether named classes and letter case follow ASCII.
+  -- Whether named classes and letter case follow ASCII. They do under the flag ASCII and in `bytes`.
   abbrev pub narrow : Bool
   narrow = fl.ascii || not (is_text u)
 
-  -- The set, closed under case if the flags say IGNORECASE.
+  -- Whether the code `c` is in the set, or, under IGNORECASE, in the set closed under case.
   abbrev pub closing : (ℕ → Bool) → ℕ → Bool
   closing set c = if fl.ignore_case then closed_holds u narrow set c else set c
 
-  -- Whether a named class, or its complement if the flag is `true`, holds the code.
+  -- Whether a named class holds the code, or its complement in the universe if the flag is `true`.
   abbrev pub kind_holds : Named → Bool → ℕ → Bool
   kind_holds k false c = is_named k narrow c
   kind_holds k true c = within u (λ d. not (is_named k narrow d)) c
 
-  -- Whether a character or escape matches the code.
+  -- Whether a character or escape matches the code. A reference, a named character (`\N{..}`) or a number that is too large
+  -- matches none.
   abbrev pub escaped_holds : Escaped → ℕ → Bool
   escaped_holds (code d) c = closing (λ x. x == d) c
   escaped_holds (kind k n) c = kind_holds k n c
   escaped_holds _ c = false
 
-  -- Whether a class member that is a character or a range holds the code. Named classes don't count.
+  -- Whether a class member that is a character or a range of codes holds the code `c`. A named class counts as empty here.
   abbrev pub code_member : Member → ℕ → Bool
   code_member (one s (code d)) c = c == d
   code_member (range s (code d) (code e)) c = nat_le d c && nat_le c e
   code_member _ c = false
 
-  -- Whether a class member that is a named class holds the code.
+  -- Whether a class member that is a named class holds the code. Any other member counts as empty here.
   abbrev pub kind_member : Member → ℕ → Bool
   kind_member (one s (kind k n)) c = kind_holds k n c
   kind_member _ c = false
 
-  -- Whether some member of a class holds the code. Characters and ranges are closed under case, named classes aren't. A
-  -- class that begins with `^` is complemented afterwards.
+  -- Whether some member of a class holds the code. Characters and ranges are closed under case, named classes aren't. A `^` at
+  -- the front of the class isn't considered.
   abbrev pub members_hold : List Member → ℕ → Bool
   members_hold ms c = closing (λ d. list_any (λ m. code_member m d) ms) c || list_any (λ m. kind_member m c) ms
 
-  -- Whether the leaf matches the code, apart from the limits of the universe.
+  -- Whether the leaf matches the code. It isn't checked that the code is in the universe.
   abbrev pub leaf_holds : Leaf → ℕ → Bool
   leaf_holds any c = fl.dot_all || not (c == 10)
   leaf_holds (glyph e) c = escaped_holds e c
   leaf_holds (members false ms) c = members_hold ms c
   leaf_holds (members true ms) c = not (members_hold ms c)
 
--- Whether the leaf matches the code, which must be in the universe.
+-- Whether the leaf matches the code `c` and the code is in the universe.
 unfoldable pub leaf_codes : Universe → Flags → Leaf → ℕ → Bool
 leaf_codes u f x = within u (leaf_holds u f x)
 
--- The anchor with MULTILINE as it is in force, or the word boundary, whose words are ASCII words under ASCII and in
+-- The anchor with the MULTILINE flag that is in force, or the word boundary. Its words are ASCII words under ASCII and in
 -- `bytes`.
 abbrev pub mark_shape : Universe → Span → Flags → Assertion → s.PatTree
 mark_shape u place f caret = s.anchor place anchor.Caret f.multiline
@@ -88,12 +91,13 @@ mark_shape u place f dollar = s.anchor place anchor.Dollar f.multiline
 mark_shape u place f text_end = s.anchor place anchor.TextEnd f.multiline
 mark_shape u place f (boundary negated) = s.boundary place negated (f.ascii || not (is_text u))
 
--- Whether the quantifier tries more repetitions first.
+-- Whether the quantifier is greedy: it tries more repetitions first and may take fewer. A lazy or possessive one isn't.
 abbrev pub is_greedy : Greed → Bool
 is_greedy greedy = true
 is_greedy _ = false
 
--- The group of this kind around a body: capturing or not, or `outside` if the kind is refused.
+-- The group of this kind around the body `p`. A `capturing` or `named` group captures, a `scoped` one doesn't. A lookaround,
+-- an atomic group or a conditional, all of which are refused, becomes `outside`, without its body.
 abbrev pub group_shape : Span → Kind → s.PatTree → s.PatTree
 group_shape place (scoped on off) p = s.group place false p
 group_shape place lookaround p = s.outside place is_lookaround
@@ -102,7 +106,7 @@ group_shape place conditional p = s.outside place is_conditional
 group_shape place _ p = s.group place true p
 
 abbrev mutual
-  -- The pattern of a node of the syntax tree, over a universe.
+  -- The pattern part of a node of the syntax tree, over the universe.
   pub shape : Universe → SyntaxNode → s.PatTree
   shape u (leaf place f x) = s.class place (leaf_codes u f x)
   shape u (mark place f m) = mark_shape u place f m
@@ -112,12 +116,12 @@ abbrev mutual
   shape u (seq place ps) = s.seq place (s.items_of (shapes u ps))
   shape u (choice place bs) = s.choice place (s.branches_of (branch_shapes u bs))
 
-  -- The patterns of a sequence of nodes.
+  -- The pattern parts of a sequence of nodes, in order.
   pub shapes : Universe → Nodes → List s.PatTree
   shapes u no_nodes = []
   shapes u (more_nodes p ps) = shape u p ∷ shapes u ps
 
-  -- The patterns of the branches of a choice, with their spans.
+  -- The pattern parts of the branches of a choice, each with its span, in order.
   pub branch_shapes : Universe → Branches → List (Span × s.PatTree)
   branch_shapes u no_branches = []
   branch_shapes u (more_branches place p bs) = (place, shape u p) ∷ branch_shapes u bs

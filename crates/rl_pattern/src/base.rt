@@ -1,4 +1,7 @@
-//! What the reader has read so far, and how to add to it.
+//! What the reader has read so far, and how to add to it. The open bodies are those of the groups that aren't closed yet, and
+//! the outermost one. The open branch is the last branch of an open body. The last atom is the one that was read last in the
+//! innermost open body, if a quantifier may still follow it. [`OutOfMemory`] is returned only if memory
+//! runs out.
 
 ghost use Rattle.std.specs.Prelude.{◌≡◌, ℕ, ◌+◌, ◌-◌, ◌<◌, ◌^◌, [], ◌∷◌, ◌++◌, length, map, reverse, IfOk, OnOk, suc};
 ghost use Rattle.rl_pattern.specs.internal.Views.{node_of, branch_of, last_of, frame_of, base_of, state_with};
@@ -14,7 +17,8 @@ use rl_syntax::Span;
 use std::alloc::Global;
 use std::mem;
 
-/// Builds the body of a branch from its items. A single item is the body itself.
+/// Returns the body of a branch with these items: an empty body if there are none, the item itself if there is one, and
+/// otherwise their sequence.
 fn branch_body(place: Span, items: Items<SyntaxNode>) -> SyntaxNode
     ensures { node_of result ≡ t.branch_body place (map node_of items) }
 {
@@ -28,7 +32,7 @@ fn branch_body(place: Span, items: Items<SyntaxNode>) -> SyntaxNode
     }
 }
 
-/// Builds a branch from its items.
+/// Returns the branch with this span and these items.
 pub(crate) fn branch(place: Span, items: Items<SyntaxNode>) -> Branch
     ensures { branch_of result ≡ t.branch place (map node_of items) }
 {
@@ -38,7 +42,8 @@ pub(crate) fn branch(place: Span, items: Items<SyntaxNode>) -> Branch
     }
 }
 
-/// Builds a body from its branches. A single branch is the body itself.
+/// Returns the body with these branches: an empty body if there are none, the body of the branch if there is one, and
+/// otherwise a choice.
 pub(crate) fn whole_body(place: Span, branches: Items<Branch>) -> SyntaxNode
     ensures { node_of result ≡ t.whole_body place (map branch_of branches) }
 {
@@ -82,7 +87,7 @@ pub(crate) fn put_leaf(base: &mut Base, from: u32, upto: u32, leaf: Leaf) -> Res
     with_last(base, Last::AnAtom(from, atom))
 }
 
-/// Adds a literal.
+/// Adds a literal at position `i`, which must be less than 2^32 - 1, as the last atom.
 pub(crate) fn put_code(base: &mut Base, i: u32, code: u32) -> Result<(), OutOfMemory>
     requires { i < 2 ^ 32 - 1 }
     ensures { OnOk result (base_of base.new ≡ m.put_code (base_of base.old) i code) }
@@ -103,7 +108,8 @@ fn put_codes(base: &mut Base, from: u32, codes: &[u32]) -> Result<(), OutOfMemor
     Ok(())
 }
 
-/// Adds a brace at `from` and the text after it as literals, because they are no repeat count.
+/// Adds a brace at `from` and the text after it as literals, because they are no repeat count. The position after the text
+/// must be less than 2^32.
 pub(crate) fn no_count(base: &mut Base, from: u32, text: &[u32]) -> Result<(), OutOfMemory>
     requires { suc from + length text.now < 2 ^ 32 }
     ensures { OnOk result (base_of base.new ≡ m.no_count (base_of base.old) from text.now) }
@@ -112,7 +118,7 @@ pub(crate) fn no_count(base: &mut Base, from: u32, text: &[u32]) -> Result<(), O
     put_codes(base, from + 1, text)
 }
 
-/// Adds the atom with its quantifier.
+/// Adds the atom, which began at `from`, with its quantifier, which has the span `mark`.
 pub(crate) fn put_repeat(
     alloc: Global,
     base: &mut Base,
@@ -132,7 +138,8 @@ pub(crate) fn put_repeat(
     put_item(base, SyntaxNode::Repeat(span, mark, count, greed, body))
 }
 
-/// Reads a quantifier that begins at `from`. Takes the last atom, or returns `None` if there is none.
+/// Takes the last atom for a quantifier with this count that begins at `from`. Returns what the reader is in the middle of
+/// then, or `None` if there is no last atom.
 pub(crate) fn count_last(base: &mut Base, from: u32, count: Count) -> Option<Lex>
     ensures { state_with (base_of base.new) result ≡ m.count_last (base_of base.old) from count (base_of base.old).last }
 {
@@ -142,7 +149,8 @@ pub(crate) fn count_last(base: &mut Base, from: u32, count: Count) -> Option<Lex
     }
 }
 
-/// Whether a `|` may follow these branches. A conditional has at most two branches.
+/// Whether a `|` may follow, in a group of this kind, after these branches. In a conditional it may if there is at most one of
+/// them. In any other group it always may.
 fn splits(kind: &Kind, branches: &Items<Branch>) -> bool
     ensures { result ≡ splits kind.now (map branch_of branches.now) }
 {
@@ -153,7 +161,8 @@ fn splits(kind: &Kind, branches: &Items<Branch>) -> bool
     }
 }
 
-/// Ends the open branch at `upto`. Adds it, together with its last atom, to the branches before it.
+/// Ends the open branch at `upto`. Adds it, together with its last atom, to the branches before it. The open branch is empty
+/// afterwards, and still begins where it did.
 pub(crate) fn end_branch(alloc: Global, base: &mut Base, upto: u32) -> Result<(), OutOfMemory>
     ensures { OnOk result (base_of base.new ≡ m.next_branch (base_of base.old) base.old.top.from (m.all_branches (base_of base.old) upto)) }
 {
@@ -163,7 +172,8 @@ pub(crate) fn end_branch(alloc: Global, base: &mut Base, upto: u32) -> Result<()
     base.top.branches.push(branch(Span { from, upto }, items))
 }
 
-/// Reads a `|` at `i`. Returns `None` if the group can't have another branch.
+/// Reads a `|` at `i`, which must be less than 2^32 - 1: ends the open branch and opens another one. Returns what the reader
+/// is in the middle of afterwards, or `None` if the group can't have another branch.
 pub(crate) fn split(alloc: Global, base: &mut Base, i: u32) -> Result<Option<Lex>, OutOfMemory>
     requires { i < 2 ^ 32 - 1 }
     ensures { IfOk result (λ found. state_with (base_of base.new) found ≡ m.split (base_of base.old) i) }
@@ -177,7 +187,7 @@ pub(crate) fn split(alloc: Global, base: &mut Base, i: u32) -> Result<Option<Lex
     }
 }
 
-/// Returns the flags inside a group.
+/// Returns the flags in force inside a group of this kind, if `flags` are in force around it.
 fn inside(kind: &Kind, flags: Flags) -> Flags
     ensures { result ≡ inside kind.now flags }
 {
@@ -188,7 +198,7 @@ fn inside(kind: &Kind, flags: Flags) -> Flags
     }
 }
 
-/// Creates a body in which nothing has been read yet.
+/// Returns a body in which nothing has been read. The parenthesis of its group is at `opened`, and it begins at `start`.
 pub(crate) fn empty_body(alloc: Global, flags: Flags, kind: Kind, opened: u32, start: u32) -> Frame
     ensures { frame_of result ≡ record { flags = flags; kind = kind; opened = opened; start = start; from = start; branches = []; items = [] } }
 {
@@ -203,7 +213,7 @@ pub(crate) fn empty_body(alloc: Global, flags: Flags, kind: Kind, opened: u32, s
     }
 }
 
-/// Adds a body to the open ones.
+/// Adds a body to the open ones, as the innermost of them.
 fn put_below(below: &mut Vec<Frame>, body: Frame) -> Result<(), OutOfMemory>
     ensures { OnOk result (map frame_of (reverse below.new.items) ≡ frame_of body ∷ map frame_of (reverse below.old.items)) }
 {
@@ -230,8 +240,8 @@ pub(crate) fn open_group(
     put_below(&mut base.below, mem::replace(&mut base.top, body))
 }
 
-/// Builds the group of a body that the `)` at `i` closes, as the last atom. The body's last branch must already be among
-/// its branches.
+/// Returns the group that the `)` at `i` closes, as the last atom. The last branch of its body must already be among the
+/// body's branches.
 fn closed(alloc: Global, body: Frame, i: u32) -> Result<Last, OutOfMemory>
     requires { i < 2 ^ 32 - 1 }
     ensures { IfOk result (λ atom. last_of atom ≡ m.an_atom body.opened (t.group (t.span body.opened (suc i)) body.kind (t.whole_body (t.span body.start i) (map branch_of body.branches)))) }
@@ -264,7 +274,8 @@ fn closed(alloc: Global, body: Frame, i: u32) -> Result<Last, OutOfMemory>
     Ok(Last::AnAtom(opened, SyntaxNode::Group(span, kind, whole)))
 }
 
-/// Reads the `)` at `i`. Returns `None` if no group is open.
+/// Reads the `)` at `i`, which must be less than 2^32 - 1: the group that it closes becomes the last atom. Returns what the
+/// reader is in the middle of afterwards, or `None` if no group is open.
 pub(crate) fn close(alloc: Global, base: &mut Base, i: u32) -> Result<Option<Lex>, OutOfMemory>
     requires { i < 2 ^ 32 - 1 }
     ensures { IfOk result (λ found. state_with (base_of base.new) found ≡ m.close (base_of base.old) i (base_of base.old).below) }
@@ -283,7 +294,8 @@ pub(crate) fn close(alloc: Global, base: &mut Base, i: u32) -> Result<Option<Lex
     }
 }
 
-/// Whether a flag group that begins at `from` is at the front of the pattern.
+/// Whether a flag group that begins at `from` is at the front of the pattern: only flag groups and ignored text come before
+/// it, and nothing before the first flag group.
 fn at_front(base: &Base, from: u32) -> bool
     ensures { result ≡ m.at_front (base_of base.now) from }
 {
@@ -298,7 +310,8 @@ fn at_front(base: &Base, from: u32) -> bool
         && (from == 0 || !base.fronts.is_empty())
 }
 
-/// Reads a flag group. Returns `None` if it isn't at the front of the pattern.
+/// Reads a flag group from `from` up to `upto`, which sets the flags `letters`. Returns what the reader is in the middle of
+/// afterwards, or `None` if the group isn't at the front of the pattern.
 pub(crate) fn put_front(
     base: &mut Base,
     from: u32,

@@ -1,4 +1,5 @@
-//! What single characters mean in the grammar of patterns.
+//! What single characters mean in the grammar of patterns. A code is a character as a number: a code point in a `str`, a byte
+//! in a `bytes`.
 
 ghost use Rattle.std.specs.Prelude.{◌≡◌, ℕ};
 ghost use Rattle.rl_pattern.specs.Codes.{sign, numeral, is_digit, hex, begins_name, goes_in_name, slashed, slashed_letter, slashed_digit, is_letter, is_blank, headed, on_letter, off_letter, counts};
@@ -7,7 +8,7 @@ use crate::lex::{EscapeClass, GroupPrefix, Numeral, TokenClass};
 use crate::tree::{Assertion, Count};
 use rl_ranges::Named;
 
-/// Classifies a character between items.
+/// Returns the class of a character between items.
 #[tactic(auto, unfolding(crate::specs::Codes::sign))]
 pub(crate) fn sign(code: u32) -> TokenClass
     ensures { result ≡ sign code }
@@ -40,7 +41,7 @@ pub(crate) fn sign(code: u32) -> TokenClass
     }
 }
 
-/// Classifies a character as a digit of an octal number.
+/// Returns the class of a character as a digit: 0 to 7 with its value, 8 or 9, or no ASCII digit.
 #[tactic(auto, unfolding(crate::specs::Codes::numeral))]
 pub(crate) fn numeral(code: u32) -> Numeral
     ensures { result ≡ numeral code }
@@ -63,7 +64,7 @@ pub(crate) fn is_digit(code: u32) -> bool
     }
 }
 
-/// Returns the value of a hexadecimal digit.
+/// Returns the value of a hexadecimal digit, in either case, or `None` if the character isn't one.
 #[tactic(auto, unfolding(crate::specs::Codes::hex))]
 pub(crate) fn hex(code: u32) -> Option<u32>
     ensures { result ≡ hex code }
@@ -83,7 +84,8 @@ pub(crate) fn is_letter(code: u32) -> bool
     matches!(char::from_u32(code), Some('a'..='z' | 'A'..='Z'))
 }
 
-/// Whether a name may begin with the character. `text` says whether the pattern is a `str`.
+/// Whether a group name may begin with the character: an ASCII letter, `_`, or any code from 128 on if `text` is `true`, that
+/// is, in a `str`.
 #[tactic(auto, unfolding(crate::specs::Codes::begins_name))]
 pub(crate) fn begins_name(text: bool, code: u32) -> bool
     ensures { result ≡ begins_name text code }
@@ -91,7 +93,8 @@ pub(crate) fn begins_name(text: bool, code: u32) -> bool
     is_letter(code) || code == '_' as u32 || text && 0x80 <= code
 }
 
-/// Whether the character may occur in a name. `text` says whether the pattern is a `str`.
+/// Whether the character may follow in a group name: one with which a name may begin, or an ASCII digit. `text` says whether
+/// the pattern is a `str`.
 #[tactic(auto, unfolding(crate::specs::Codes::goes_in_name))]
 pub(crate) fn goes_in_name(text: bool, code: u32) -> bool
     ensures { result ≡ goes_in_name text code }
@@ -99,8 +102,9 @@ pub(crate) fn goes_in_name(text: bool, code: u32) -> bool
     begins_name(text, code) || is_digit(code)
 }
 
-/// Classifies a letter after a backslash. `text` says whether the pattern is a `str`, `in_class` whether the escape is in a
-/// class.
+/// Returns what an ASCII letter means after a backslash. `text` says whether the pattern is a `str`: only in a `str` are `\u`,
+/// `\U` and `\N` escapes. `in_class` says whether the escape is in a class: there `\b` is a backspace, and `\A`, `\B` and `\Z`
+/// are no escapes.
 fn slashed_letter(text: bool, in_class: bool, code: u32) -> EscapeClass
     ensures { result ≡ slashed_letter text in_class code }
 {
@@ -130,8 +134,8 @@ fn slashed_letter(text: bool, in_class: bool, code: u32) -> EscapeClass
     }
 }
 
-/// Classifies a character after a backslash. `text` says whether the pattern is a `str`, `in_class` whether the escape is
-/// in a class.
+/// Returns what a character means after a backslash, or `NoEscape` if it can't follow one. `text` says whether the pattern
+/// is a `str`, and `in_class` whether the escape is in a class.
 #[tactic(auto, unfolding(crate::specs::Codes::slashed))]
 pub(crate) fn slashed(text: bool, in_class: bool, code: u32) -> EscapeClass
     ensures { result ≡ slashed text in_class code }
@@ -158,7 +162,7 @@ pub(crate) fn slashed(text: bool, in_class: bool, code: u32) -> EscapeClass
     }
 }
 
-/// Whether the character is a flag letter that may precede a `-`.
+/// Whether the character is one of the flag letters `aiLmsux`, which a group can turn on.
 #[tactic(auto, unfolding(crate::specs::Codes::on_letter))]
 pub(crate) fn on_letter(code: u32) -> bool
     ensures { result ≡ on_letter code }
@@ -169,7 +173,7 @@ pub(crate) fn on_letter(code: u32) -> bool
     )
 }
 
-/// Whether the character is a flag letter that may follow a `-`.
+/// Whether the character is one of the flag letters `imsx`, which a group can turn off after a `-`.
 #[tactic(auto, unfolding(crate::specs::Codes::off_letter))]
 pub(crate) fn off_letter(code: u32) -> bool
     ensures { result ≡ off_letter code }
@@ -177,7 +181,7 @@ pub(crate) fn off_letter(code: u32) -> bool
     matches!(char::from_u32(code), Some('i' | 'm' | 's' | 'x'))
 }
 
-/// Classifies a character after `(?`.
+/// Returns the class of a character after `(?`. One that can't follow `(?` is `NoHead`.
 #[tactic(auto, unfolding(crate::specs::Codes::headed))]
 pub(crate) fn headed(code: u32) -> GroupPrefix
     ensures { result ≡ headed code }
@@ -198,7 +202,7 @@ pub(crate) fn headed(code: u32) -> GroupPrefix
     }
 }
 
-/// Whether the character may occur in a repeat count between braces.
+/// Whether the character may occur in a repeat count between braces: an ASCII digit or a comma.
 #[tactic(auto, unfolding(crate::specs::Codes::counts))]
 pub(crate) fn counts(code: u32) -> bool
     ensures { result ≡ counts code }

@@ -8,7 +8,7 @@ use crate::escape::with_digit;
 use crate::lex::CountPart;
 use crate::tree::Count;
 
-/// Adds a character to a count. Returns `None` if it can't continue the count.
+/// Returns the state of the count after one more digit or comma, or `None` if it can't continue the count.
 fn count_next(part: CountPart, code: u32) -> Option<CountPart>
     ensures { result ≡ part_next part code }
 {
@@ -38,7 +38,7 @@ fn count_next(part: CountPart, code: u32) -> Option<CountPart>
     }
 }
 
-/// Returns the count that has been read when its text ends here.
+/// Returns the count that has been read if its text ends here.
 fn count_at_end(part: CountPart) -> Count
     ensures { Some result ≡ part_rest part [] }
 {
@@ -55,7 +55,8 @@ fn count_at_end(part: CountPart) -> Count
     }
 }
 
-/// Returns the count that a text of digits and commas between braces spells, or `None` if it spells none.
+/// Returns the count that a text of digits and commas between braces spells, or `None` if it spells none, like the empty text
+/// or `1,2,3`.
 #[tactic(auto, unfolding(crate::specs::Codes::count_of))]
 pub(crate) fn count_of(text: &[u32]) -> Option<Count>
     ensures { result ≡ count_of text.now }

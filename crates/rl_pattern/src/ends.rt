@@ -1,4 +1,5 @@
-//! The reader before the first character and at the end of the pattern.
+//! The reader before the first character and at the end of the pattern. The reader takes one character at a time; a construct
+//! is what it is in the middle of, such as an escape. Positions count codes from 0.
 
 ghost use Rattle.std.specs.Prelude.{◌≡◌, ℕ, ◌-◌, ◌<◌, ◌^◌, IfOk, option_map, Some, None, if◌then◌else◌};
 ghost use Rattle.rl_pattern.specs.internal.Views.{base_of, lex_of, state_of, whole_of, FitsAt};
@@ -35,7 +36,8 @@ fn whole(alloc: Global, base: &mut Base, k: u32) -> Result<Option<Whole>, OutOfM
     }))
 }
 
-/// Whether the pattern may end at `k` in the middle of this construct. If so, the construct is added to what was read.
+/// Returns whether the pattern may end at `k` in the middle of this construct. If so, the construct is added to what was read.
+/// Open groups aren't considered.
 fn may_end(alloc: Global, base: &mut Base, lex: Lex, k: u32) -> Result<bool, OutOfMemory>
     requires room { k < 2 ^ 32 - 1 }
     requires fits { FitsAt (lex_of lex) k }
@@ -75,7 +77,8 @@ fn may_end(alloc: Global, base: &mut Base, lex: Lex, k: u32) -> Result<bool, Out
     }
 }
 
-/// Returns the whole pattern if it ends at `k` in the middle of this construct, or `None` if it can't end there.
+/// Returns the whole pattern if it ends at `k` in the middle of this construct, or `None` if it can't end there. `k` must be
+/// less than 2^32 - 1, and within braces it must be the position after the text that was read.
 pub(crate) fn finish_lex(
     alloc: Global,
     base: &mut Base,
@@ -93,7 +96,7 @@ pub(crate) fn finish_lex(
     }
 }
 
-/// Returns the state before the first character.
+/// Returns the state before the first character, under the flags of the call.
 pub(crate) fn start(alloc: Global, flags: Flags) -> State
     ensures { state_of result ≡ m.start flags }
 {

@@ -1,4 +1,5 @@
-//! The reader within an escape.
+//! The reader within an escape. The answer of an escape to a character is that the character can't continue it (`Stops`), the
+//! next state within it (`Goes`), or its result if the character completes it (`Ends`).
 
 ghost use Rattle.std.specs.Prelude.{◌≡◌, ℕ};
 ghost use Rattle.rl_pattern.specs.internal.Signs.{code_up_to};
@@ -9,7 +10,7 @@ use crate::codes::{hex, numeral};
 use crate::lex::{Answer, EscapeClass, InEscape, Numeral};
 use crate::tree::Escaped;
 
-/// Appends a digit to a number in the given base.
+/// Returns the number in the given base with a digit appended, but at most 4,294,967,295.
 pub(crate) fn with_digit(base: u32, number: u32, digit: u32) -> u32
     ensures { result ≡ with_digit base number digit }
 {
@@ -27,14 +28,14 @@ fn code_up_to(greatest: u32, number: u32) -> Escaped
     }
 }
 
-/// Returns the code that an octal number denotes.
+/// Returns the code that an octal number denotes, or `TooLarge` if it is greater than 255.
 fn octal_code(number: u32) -> Escaped
     ensures { result ≡ octal_code number }
 {
     code_up_to(255, number)
 }
 
-/// Returns the code that a hexadecimal number denotes.
+/// Returns the code that a hexadecimal number denotes, or `TooLarge` if it is greater than 0x10FFFF.
 fn hex_code(number: u32) -> Escaped
     ensures { result ≡ hex_code number }
 {
@@ -51,7 +52,7 @@ pub(crate) fn is_kind(escaped: Escaped) -> bool
     }
 }
 
-/// Reads the character after the backslash.
+/// Returns the answer of an escape to the character after the backslash, given what it means.
 pub(crate) fn escape_first(slashed: EscapeClass) -> Answer<InEscape, Escaped>
     ensures { result ≡ escape_first slashed }
 {
@@ -67,7 +68,8 @@ pub(crate) fn escape_first(slashed: EscapeClass) -> Answer<InEscape, Escaped>
     }
 }
 
-/// Reads a hexadecimal digit. `still` digits remain to be read, including this one.
+/// Returns the answer of an escape to the next hexadecimal digit, or to a character that isn't one (`None`). `still` digits
+/// are missing, including this one, and `value` is the value of those before.
 fn hex_next(still: u32, value: u32, digit: Option<u32>) -> Answer<InEscape, Escaped>
     ensures { result ≡ hex_next still value digit }
 {
@@ -84,7 +86,8 @@ fn hex_next(still: u32, value: u32, digit: Option<u32>) -> Answer<InEscape, Esca
     }
 }
 
-/// Reads a character after octal digits. Up to `still` digits may follow, including this one.
+/// Returns the answer of an escape to a character after octal digits with this value. Up to `still` more digits may follow,
+/// including this one.
 fn octal_next(still: u32, value: u32, next: Numeral) -> Answer<InEscape, Escaped>
     ensures { result ≡ octal_next still value next }
 {
@@ -101,7 +104,7 @@ fn octal_next(still: u32, value: u32, next: Numeral) -> Answer<InEscape, Escaped
     }
 }
 
-/// Reads the next character of an escape.
+/// Returns the answer of an escape in this state to the next character.
 pub(crate) fn escape_next(within: InEscape, code: u32) -> Answer<InEscape, Escaped>
     ensures { result ≡ escape_next within code }
 {
@@ -147,7 +150,7 @@ pub(crate) fn escape_next(within: InEscape, code: u32) -> Answer<InEscape, Escap
     }
 }
 
-/// Returns what the escape is if the next character doesn't continue it, or `None` if it is incomplete.
+/// Returns the result of an escape in this state if the next character doesn't continue it, or `None` if it is incomplete.
 pub(crate) fn escape_rest(within: InEscape) -> Option<Escaped>
     ensures { result ≡ escape_rest within }
 {

@@ -1,4 +1,5 @@
-//! What is refused in a syntax tree: the first fault by position, and by the order of features at the same position.
+//! What is refused in a syntax tree: the first fault by position, and by the order of features at the same position. A fault
+//! is a feature that is refused, with its position. The rank of a feature is its place in that order.
 
 ghost use Rattle.std.specs.Prelude.{◌≡◌, ℕ, Bool, List, map, ◌||◌, ◌&&◌, ◌==◌, nat_lt, flat_map};
 ghost use Rattle.rl_pattern.specs.internal.Views.{node_of, branch_of};
@@ -14,13 +15,13 @@ use rl_syntax::{Feature, Span};
 /// A feature that is refused, with its position.
 #[derive(Clone, Copy)]
 pub(crate) struct Fault {
-    /// The position.
+    /// The position at which the refused part begins, counting codes from 0.
     pub(crate) place: u32,
-    /// The feature.
+    /// The feature that is refused.
     pub(crate) what: Feature,
 }
 
-/// Returns the rank of a feature, which decides between two faults at the same position.
+/// Returns the rank of a feature. Of two faults at the same position, the one with the lower rank is reported.
 fn rank(what: Feature) -> u32
     ensures { result ≡ f.rank what }
 {
@@ -42,7 +43,8 @@ fn rank(what: Feature) -> u32
     }
 }
 
-/// Whether the first fault comes before the second, or is equal to it.
+/// Whether the first fault is reported rather than the second: its position is less, or the positions are equal and its rank
+/// isn't greater.
 fn comes_first(first: Fault, second: Fault) -> bool
     ensures { result ≡ f.comes_first first second }
 {
@@ -50,7 +52,7 @@ fn comes_first(first: Fault, second: Fault) -> bool
         || first.place == second.place && rank(first.what) <= rank(second.what)
 }
 
-/// Returns the earlier of two faults, either of which may be missing.
+/// Returns the one of two faults that is reported, either of which may be missing. If both are missing, it returns `None`.
 pub(crate) fn earlier(first: Option<Fault>, second: Option<Fault>) -> Option<Fault>
     ensures { result ≡ f.earlier first second }
 {
@@ -63,7 +65,7 @@ pub(crate) fn earlier(first: Option<Fault>, second: Option<Fault>) -> Option<Fau
     }
 }
 
-/// Returns a fault if `found` is set.
+/// Returns the fault of the feature `what` at position `place` if `found` is `true`, otherwise `None`.
 pub(crate) fn fault_if(found: bool, place: u32, what: Feature) -> Option<Fault>
     ensures { result ≡ f.first_fault (f.fault_if found place what) }
 {
@@ -74,7 +76,7 @@ pub(crate) fn fault_if(found: bool, place: u32, what: Feature) -> Option<Fault>
     }
 }
 
-/// Returns the fault of a character or escape at a position.
+/// Returns the fault of a character or escape at a position, or `None` if it isn't refused.
 fn escaped_fault(place: u32, escaped: Escaped) -> Option<Fault>
     ensures { result ≡ f.first_fault (f.escaped_faults place escaped) }
 {
@@ -95,7 +97,7 @@ fn escaped_fault(place: u32, escaped: Escaped) -> Option<Fault>
     }
 }
 
-/// Whether the first code of a range is greater than its last.
+/// Whether both sides of a range are codes and the first is greater than the last.
 fn reversed(first: Escaped, last: Escaped) -> bool
     ensures { result ≡ f.reversed first last }
 {
@@ -147,7 +149,7 @@ fn leaf_fault(span: Span, leaf: &Leaf) -> Option<Fault>
     }
 }
 
-/// Returns the fault of an anchor or word boundary.
+/// Returns the fault of an anchor or word boundary, or `None` if it isn't refused. Only a `$` without MULTILINE is.
 fn mark_fault(span: Span, flags: Flags, mark: Assertion) -> Option<Fault>
     ensures { result ≡ f.first_fault (f.mark_faults span flags mark) }
 {
@@ -203,7 +205,7 @@ fn count_fault(place: u32, count: Count, greed: Greed) -> Option<Fault>
     earlier(too_large, earlier(order, kept))
 }
 
-/// Whether the same letter is on both sides of a `-`.
+/// Whether one of the letters `imsx` is on both sides of a `-`.
 fn overlap(on: Flags, off: Flags) -> bool
     ensures { result ≡ f.overlap on off }
 {
@@ -240,7 +242,8 @@ fn kind_fault(text: bool, place: u32, kind: &Kind) -> Option<Fault>
     }
 }
 
-/// Returns the first fault of a node, apart from duplicate group names. `text` says whether the pattern is a `str`.
+/// Returns the fault of a node and the nodes in it that is reported, apart from duplicate group names, or `None` if nothing is
+/// refused. `text` says whether the pattern is a `str`.
 #[cycle(node_fault)]
 #[tactic(auto, using(crate::proofs::FirstFault::first_of_joined))]
 pub(crate) fn node_fault(text: bool, node: &SyntaxNode) -> Option<Fault>
@@ -303,8 +306,8 @@ fn front_fault(text: bool, flags: Flags, front: Front) -> Option<Fault>
     )
 }
 
-/// Returns the first fault of the flag groups at the front, given the flags of the call. `text` says whether the pattern is
-/// a `str`.
+/// Returns the fault of the flag groups at the front that is reported, given the flags of the call, or `None` if nothing is
+/// refused. `text` says whether the pattern is a `str`.
 pub(crate) fn fronts_fault(text: bool, call: Flags, fronts: &[Front]) -> Option<Fault>
     ensures { result ≡ f.first_fault (f.front_faults text call fronts.now) }
 {
@@ -317,7 +320,8 @@ pub(crate) fn fronts_fault(text: bool, call: Flags, fronts: &[Front]) -> Option<
     best
 }
 
-/// Returns the reason to refuse the flags of the call, if there is one. `text` says whether the pattern is a `str`.
+/// Returns the reason to refuse the flags of the call, or `None`: LOCALE, or UNICODE together with ASCII or for a `bytes`
+/// pattern. `text` says whether the pattern is a `str`.
 pub(crate) fn refused_flags(flags: Flags, text: bool) -> Option<Feature>
     ensures { result ≡ f.refused_flags flags text }
 {

@@ -3,7 +3,7 @@
 ghost use Rattle.std.specs.Prelude.{◌≡◌, ◌&&◌, ◌||◌, not};
 ghost use Rattle.rl_pattern.specs.Codes.{no_flags, with_letter, joined, scoped_flags};
 
-/// The flags of a pattern, by their letters in the manual of Python's `re`: `i m s x a u L`.
+/// The flags of a pattern, one for each of the letters `imsxauL` in the manual of Python's `re`.
 #[derive(Clone, Copy, Debug, PartialEq, Eq)]
 pub struct Flags {
     /// `i`: characters and ranges also match their other cases.
@@ -12,17 +12,17 @@ pub struct Flags {
     pub multiline: bool,
     /// `s`: `.` also matches a line feed.
     pub dot_all: bool,
-    /// `x`: white space and `#` comments between items are ignored.
+    /// `x`: white space and comments with `#` between items are ignored.
     pub verbose: bool,
-    /// `a`: named classes and word boundaries follow ASCII.
+    /// `a`: named classes, word boundaries and letter case follow ASCII.
     pub ascii: bool,
-    /// `u`: named classes and word boundaries follow Unicode, which is the default for a `str`.
+    /// `u`: named classes, word boundaries and letter case follow Unicode, which is the default for a `str`.
     pub unicode: bool,
-    /// `L`: they follow the locale. No pattern with this flag is judged.
+    /// `L`: named classes, word boundaries and letter case follow the locale. A pattern with this flag is refused.
     pub locale: bool,
 }
 
-/// Returns flags of which none is set.
+/// Returns the flags of which none is set.
 pub(crate) fn no_flags() -> Flags
     ensures { result ≡ no_flags }
 {
@@ -37,7 +37,7 @@ pub(crate) fn no_flags() -> Flags
     }
 }
 
-/// Returns the flags with one more letter set.
+/// Returns the flags `letters` with the flag of the letter `code` set too. A code that isn't a flag letter sets none.
 #[tactic(auto, unfolding(crate::specs::Codes::with_letter))]
 pub(crate) fn with_letter(letters: Flags, code: u32) -> Flags
     ensures { result ≡ with_letter letters code }
@@ -53,7 +53,7 @@ pub(crate) fn with_letter(letters: Flags, code: u32) -> Flags
     }
 }
 
-/// Returns the flags in force after a flag group at the front.
+/// Returns the flags in force after a flag group with these letters at the front: a flag is set if it is set in either.
 #[tactic(auto, unfolding(crate::specs::Codes::joined))]
 pub(crate) fn joined(flags: Flags, letters: Flags) -> Flags
     ensures { result ≡ joined flags letters }
@@ -69,22 +69,25 @@ pub(crate) fn joined(flags: Flags, letters: Flags) -> Flags
     }
 }
 
-/// Returns a flag within a group that may turn it on or off.
+/// Returns whether a flag of `imsx` is in force inside a group. `flag` says whether it is in force around the group, and `on`
+/// and `off` whether its letter is before and after the `-`. If both are set, the flag is off.
 fn turned(off: bool, on: bool, flag: bool) -> bool
     ensures { result ≡ (not off && (on || flag)) }
 {
     !off && (on || flag)
 }
 
-/// Returns a flag within a group that may turn it on, or may turn on another flag that excludes it.
+/// Returns whether ASCII or UNICODE is in force inside a group. `flag` says whether it is in force around the group, `on`
+/// whether the group has its letter, and `other` whether the group has the letter of the other one, which turns it off.
 fn turned_by(on: bool, flag: bool, other: bool) -> bool
     ensures { result ≡ (on || (flag && not other)) }
 {
     on || flag && !other
 }
 
-/// Returns the flags within a group that has letters before and after its `-`. A letter on both sides is off, and ASCII and
-/// UNICODE turn each other off.
+/// Returns the flags in force inside a group with the letters `on` before its `-` and `off` after it, if `flags` are in force
+/// around it. Of `imsx`, a letter in both is off. The letter `a` turns UNICODE off unless `u` is there too, and `u` turns
+/// ASCII off unless `a` is.
 #[tactic(auto, unfolding(crate::specs::Codes::scoped_flags))]
 pub(crate) fn scoped_flags(on: Flags, off: Flags, flags: Flags) -> Flags
     ensures { result ≡ scoped_flags on off flags }

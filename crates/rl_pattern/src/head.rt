@@ -1,8 +1,10 @@
-//! The reader within the head of a group.
+//! The reader within the head of a group, which goes from its parenthesis up to its body. The answer of a head to a character
+//! is that the character can't continue it (`Stops`), the next state within it (`Goes`), or what the head begins if the
+//! character completes it (`Ends`).
 
 ghost use Rattle.std.specs.Prelude.{◌≡◌, ℕ, Bool, [], ◌∷◌, ◌++◌, if◌then◌else◌, IfOk};
 ghost use Rattle.rl_pattern.specs.Codes.{is};
-ghost use Rattle.rl_pattern.specs.internal.Machine.{head_step, quest_next, behind_next, behind_paren};
+ghost use Rattle.rl_pattern.specs.internal.Machine.{head_step, quest_next, after_less_next, behind_paren};
 
 use crate::codes::{begins_name, goes_in_name, headed, is_digit, off_letter, on_letter};
 use crate::flags::{Flags, no_flags, with_letter};
@@ -35,7 +37,7 @@ pub(crate) fn behind_paren(head: &InHead) -> bool
     }
 }
 
-/// Reads the character after `(?`.
+/// Returns the answer of a head to the character after `(?`, given its class.
 fn quest_next(next: GroupPrefix, code: u32) -> HeadAnswer
     ensures { result ≡ quest_next next code }
 {
@@ -56,9 +58,9 @@ fn quest_next(next: GroupPrefix, code: u32) -> HeadAnswer
     }
 }
 
-/// Reads the character after `(?<`.
-fn behind_next(next: GroupPrefix) -> HeadAnswer
-    ensures { result ≡ behind_next next }
+/// Returns the answer of a head to the character after `(?<`, given its class.
+fn after_less_next(next: GroupPrefix) -> HeadAnswer
+    ensures { result ≡ after_less_next next }
 {
     match next {
         GroupPrefix::Looks => Answer::Ends(GroupStart::BeginsGroup(Kind::Lookaround)),
@@ -74,7 +76,7 @@ fn behind_next(next: GroupPrefix) -> HeadAnswer
     }
 }
 
-/// Reads a character after flag letters.
+/// Returns the answer of a head to a character after flag letters.
 fn letters_next(letters: Flags, code: u32) -> HeadAnswer
     ensures { (text : Bool) → result ≡ head_step text (InHead.LettersOn letters) code }
 {
@@ -94,7 +96,7 @@ fn letters_next(letters: Flags, code: u32) -> HeadAnswer
     }
 }
 
-/// Continues with the head if `goes` is set, and stops otherwise.
+/// Returns the answer of a head that goes on in this state if `goes` is `true`, and stops otherwise.
 fn goes_if(goes: bool, head: InHead) -> HeadAnswer
     ensures { result ≡ (if goes then Answer.Goes head else Answer.Stops) }
 {
@@ -105,7 +107,8 @@ fn goes_if(goes: bool, head: InHead) -> HeadAnswer
     }
 }
 
-/// Appends a character to a group's name if `goes` is set, and stops otherwise.
+/// Returns the answer of a head to a character of a group's name. If `goes` is `true`, it is appended to the name. Otherwise
+/// the head stops.
 fn name_goes(goes: bool, mut name: Items<u32>, code: u32) -> Result<HeadAnswer, OutOfMemory>
     ensures { IfOk result (λ answer. answer ≡ (if goes then Answer.Goes (InHead.GroupNameGoes (name ++ code ∷ [])) else Answer.Stops)) }
 {
@@ -120,7 +123,7 @@ fn name_goes(goes: bool, mut name: Items<u32>, code: u32) -> Result<HeadAnswer, 
     Ok(Answer::Goes(InHead::GroupNameGoes(name)))
 }
 
-/// Reads a character within a group's name. `text` says whether the pattern is a `str`.
+/// Returns the answer of a head to a character after the start of a group's name. `text` says whether the pattern is a `str`.
 fn group_name_next(text: bool, name: Items<u32>, code: u32) -> Result<HeadAnswer, OutOfMemory>
     ensures { IfOk result (λ answer. answer ≡ head_step text (InHead.GroupNameGoes name) code) }
 {
@@ -131,7 +134,8 @@ fn group_name_next(text: bool, name: Items<u32>, code: u32) -> Result<HeadAnswer
     }
 }
 
-/// Reads a character within the condition of a conditional group.
+/// Returns the answer of a head to a character in the condition of a conditional group. If the character isn't a `)`, the head
+/// goes on in this state if `goes` is `true`, and stops otherwise.
 fn asks_next(code: u32, goes: bool, head: InHead) -> HeadAnswer
     ensures { result ≡ (if is ")" code then Answer.Ends (GroupStart.BeginsGroup Kind.Conditional) else (if goes then Answer.Goes head else Answer.Stops)) }
 {
@@ -142,7 +146,7 @@ fn asks_next(code: u32, goes: bool, head: InHead) -> HeadAnswer
     }
 }
 
-/// Reads the next character of a head. `text` says whether the pattern is a `str`.
+/// Returns the answer of a head in this state to the next character. `text` says whether the pattern is a `str`.
 pub(crate) fn head_step(
     alloc: Global,
     text: bool,
@@ -161,7 +165,7 @@ pub(crate) fn head_step(
                 Ok(goes_if(code == '=' as u32, InHead::ReferenceName))
             }
         }
-        InHead::AfterLess => Ok(behind_next(headed(code))),
+        InHead::AfterLess => Ok(after_less_next(headed(code))),
         InHead::GroupName => name_goes(begins_name(text, code), Items::new(alloc), code),
         InHead::GroupNameGoes(name) => group_name_next(text, name, code),
         InHead::ReferenceName => Ok(goes_if(begins_name(text, code), InHead::ReferenceNameGoes)),

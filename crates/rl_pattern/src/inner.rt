@@ -1,4 +1,5 @@
-//! Removing the outer anchors of a pattern.
+//! Removing the outer anchors of a pattern: in a pattern with only one branch, the leading ones at its start, `\A` or `^`, and
+//! the trailing ones at its end, `\Z` or `$`. `^` and `$` are among them only where MULTILINE isn't in force.
 
 ghost use Rattle.std.specs.Prelude.{◌≡◌, List, [], ◌∷◌, map, reverse, Some, IfOk};
 ghost use Rattle.rl_pattern.specs.internal.Views.{node_of, branch_of, whole_of};
@@ -17,9 +18,9 @@ use std::alloc::Global;
 pub(crate) struct Inner {
     /// What is left of the body. Its spans are those of the pattern as written.
     pub(crate) body: SyntaxNode,
-    /// Whether there was an anchor at the start.
+    /// Whether there was a leading anchor.
     pub(crate) leading: bool,
-    /// The anchors at the end.
+    /// The trailing anchor that the trailing anchors amount to, or `Trail::None` if there were none.
     pub(crate) trailing: Trail,
 }
 
@@ -42,7 +43,7 @@ fn is_leading(node: &SyntaxNode) -> bool
     }
 }
 
-/// Returns the trailing anchor that the node is, if it is one.
+/// Returns the trailing anchor that the node is, or `Trail::None` if it is none.
 fn trail_of(node: &SyntaxNode) -> Trail
     ensures { result ≡ f.trail_of (node_of node.now) }
 {
@@ -67,7 +68,7 @@ fn trail_of(node: &SyntaxNode) -> Trail
     }
 }
 
-/// Returns the trailing anchor that two of them form: `\Z` if one of them is `\Z`.
+/// Returns the trailing anchor that two of them amount to: `\Z` if one of them is `\Z`, `$` if one is `$` and none is `\Z`.
 fn both_trails(first: Trail, second: Trail) -> Trail
     ensures { result ≡ anchor_of_both first second }
 {
@@ -101,7 +102,7 @@ fn ends_leading(items: &[SyntaxNode]) -> bool
     }
 }
 
-/// Returns the trailing anchor that the last item is, if it is one.
+/// Returns the trailing anchor that the last item is, or `Trail::None` if it is none or there are no items.
 fn last_trail(items: &[SyntaxNode]) -> Trail
     ensures { result ≡ trail_at (reverse (map node_of items.now)) }
 {
@@ -111,7 +112,7 @@ fn last_trail(items: &[SyntaxNode]) -> Trail
     }
 }
 
-/// Removes the longest run of leading anchors from items in reverse order, where the run is at the end.
+/// Removes the longest run of leading anchors from items in reverse order, in which the run is at the end.
 fn take_from_back(items: &mut Vec<SyntaxNode>)
     ensures { reverse (map node_of items.new.items) ≡ without_leading (reverse (map node_of items.old.items)) }
 {
@@ -120,7 +121,7 @@ fn take_from_back(items: &mut Vec<SyntaxNode>)
     }
 }
 
-/// Removes the longest run of leading anchors from the items.
+/// Removes the longest run of leading anchors from the start of the items.
 fn take_leading(items: &mut Vec<SyntaxNode>)
     ensures { map node_of items.new.items ≡ without_leading (map node_of items.old.items) }
 {
@@ -129,7 +130,8 @@ fn take_leading(items: &mut Vec<SyntaxNode>)
     items.reverse();
 }
 
-/// Removes the longest run of trailing anchors from the items, and returns which anchor it was.
+/// Removes the longest run of trailing anchors from the end of the items, and returns the trailing anchor that the run amounts
+/// to.
 fn take_trailing(items: &mut Vec<SyntaxNode>) -> Trail
     ensures rest { reverse (map node_of items.new.items) ≡ without_trailing (reverse (map node_of items.old.items)) }
     ensures run { result ≡ f.trailing_run (reverse (map node_of items.old.items)) }
@@ -159,7 +161,7 @@ fn inner_branch(place: Span, mut items: Vec<SyntaxNode>) -> Inner
     }
 }
 
-/// Removes the outer anchors from a whole pattern.
+/// Removes the outer anchors from a whole pattern. A body with several branches stays as it is.
 ///
 /// # Errors
 /// [`OutOfMemory`] if there is no memory for a branch.

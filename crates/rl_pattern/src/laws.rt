@@ -1,5 +1,6 @@
-//! Laws of spelling and parsing, which hold for all texts of patterns. The functions do nothing; their `ensures` clauses
-//! are the laws.
+//! Laws of spelling and parsing, which hold for all texts of patterns. The functions do nothing; their `ensures` clauses are
+//! the laws. Codes spell a syntax tree by the grammar. A suggestion for a pattern drops branches and removes quantifiers. A
+//! guard is an anchor or a word boundary.
 
 ghost use Rattle.std.specs.Prelude.{◌≡◌, ◌⊎◌, ℕ, Bool, true, List, [], length, Result, Ok, Err};
 ghost use Rattle.rl_ranges.specs.declared.universe.Universe.{Universe};
@@ -16,9 +17,9 @@ ghost use Rattle.rl_pattern.specs.Grammar.{Spells};
 ghost use Rattle.rl_pattern.specs.Parsed.{IsParsed};
 ghost use Rattle.rl_pattern.specs.internal.Meeting.{Thinned};
 ghost use Rattle.rl_pattern.specs.internal.Left.{LeftWhole};
-ghost use Rattle.rl_pattern.specs.Cut.{left};
+ghost use Rattle.rl_pattern.specs.Cut.{remaining};
 ghost use Rattle.rl_pattern.specs.Suggested.{among, no_span, may_go, holds_guard, branches_in, merged_in, text_of, without};
-ghost use Rattle.rl_pattern.specs.Reread.{IsLeft, IsReread};
+ghost use Rattle.rl_pattern.specs.Reread.{IsRemaining, IsReread};
 ghost use Rattle.rl_pattern.specs.Placed.{ArePlaced};
 ghost use Rattle.rl_pattern.specs.SameAnswer.{IsSameAnswer};
 
@@ -27,41 +28,43 @@ pub fn codes_spell_one_tree()
     ensures { (call : Flags) (text : Bool) (w : List ℕ) (p q : Whole) → Spells call text w p → Spells call text w q → p ≡ q }
 {}
 
-/// States that parsing has only one result, except that it may run out of memory.
+/// States that parsing has only one result for given codes, flags and universe, except that it may run out of memory. Two
+/// results are the same if they are the same error, or the same pattern with its sets compared by the codes that they contain.
 pub fn parsed_once()
     ensures { (flags : Flags) (u : Universe) (w : List ℕ) (r s : Result Pattern PatError) → IsParsed flags u w r → IsParsed flags u w s
         → (r ≡ Err error.OutOfMemory) ⊎ ((s ≡ Err error.OutOfMemory) ⊎ IsSameAnswer r s) }
 {}
 
 /// States that the spans listed for a suggestion lie in the pattern and are in ascending order: those of all branches, and
-/// those of the quantifiers that are removed once some branches are dropped.
+/// those of the quantifiers that are removed once some branches are dropped. Here ascending means by where they begin.
 pub fn spans_lie_in_the_codes()
     ensures branches { (flags : Flags) (u : Universe) (w : List ℕ) (found : Pattern) → IsParsed flags u w (Ok found)
         → ArePlaced (length w) (branches_in (body_of found)) }
     ensures quantifiers { (flags : Flags) (u : Universe) (w : List ℕ) (found : Pattern) (dropped : List Span) → IsParsed flags u w (Ok found)
-        → ArePlaced (length w) (merged_in (left (among dropped) no_span (body_of found))) }
+        → ArePlaced (length w) (merged_in (remaining (among dropped) no_span (body_of found))) }
 {}
 
 /// States that spelling is local. If some codes of a pattern are removed, and the codes that become neighbors may be
-/// neighbors, then the remaining codes spell what is left of the syntax tree, under the same flags.
+/// neighbors, the remaining codes spell what is left of the syntax tree, under the same flags.
 pub(crate) fn left_is_spelled()
     ensures { (call : Flags) (text : Bool) (w v : List ℕ) (kept : ℕ → Bool) (g : ℕ → ℕ) (p : Whole) → Thinned w v kept g
         → LeftWhole text w kept g call p → Spells call text v p }
 {}
 
-/// States that the text of a suggestion can be parsed. The result is the pattern without the dropped branches and the
-/// removed quantifiers, and parsing gives no other result unless it runs out of memory. Removing the quantifiers doesn't
-/// change what the pattern spans.
+/// States that the text of a suggestion can be parsed, if the dropped branches may be dropped and none is dropped from a
+/// pattern with guards. The result is the pattern without the dropped branches and the removed quantifiers, and parsing gives
+/// no other result unless it runs out of memory. Removing the quantifiers doesn't change which positions of a text the pattern
+/// spans.
 pub fn right_texts_are_read()
     ensures pattern { (flags : Flags) (u : Universe) (w : List ℕ) (found : Pattern) (dropped : List Span) → IsParsed flags u w (Ok found)
         → may_go (among dropped) (body_of found) ≡ true → (holds_guard (body_of found) ≡ true → dropped ≡ [])
-        → (new : Pattern) × IsParsed flags u (text_of (body_of found) dropped (merged_in (left (among dropped) no_span (body_of found))) w) (Ok new)
-        × IsLeft (among dropped) (among (merged_in (left (among dropped) no_span (body_of found)))) found new }
+        → (new : Pattern) × IsParsed flags u (text_of (body_of found) dropped (merged_in (remaining (among dropped) no_span (body_of found))) w) (Ok new)
+        × IsRemaining (among dropped) (among (merged_in (remaining (among dropped) no_span (body_of found)))) found new }
     ensures reads { (flags : Flags) (u : Universe) (w : List ℕ) (found : Pattern) (dropped : List Span) → IsParsed flags u w (Ok found)
         → may_go (among dropped) (body_of found) ≡ true → (holds_guard (body_of found) ≡ true → dropped ≡ [])
-        → (r : Result Pattern PatError) → IsParsed flags u (text_of (body_of found) dropped (merged_in (left (among dropped) no_span (body_of found))) w) r
-        → IsReread (among dropped) (among (merged_in (left (among dropped) no_span (body_of found)))) found r }
+        → (r : Result Pattern PatError) → IsParsed flags u (text_of (body_of found) dropped (merged_in (remaining (among dropped) no_span (body_of found))) w) r
+        → IsReread (among dropped) (among (merged_in (remaining (among dropped) no_span (body_of found)))) found r }
     ensures spans { (flags : Flags) (u : Universe) (w : List ℕ) (found : Pattern) (dropped : List Span) → IsParsed flags u w (Ok found)
         → may_go (among dropped) (body_of found) ≡ true → (holds_guard (body_of found) ≡ true → dropped ≡ [])
-        → SameSpans (lowered (left (among dropped) (among (merged_in (left (among dropped) no_span (body_of found)))) (body_of found))) (without dropped (body_of found)) }
+        → SameSpans (lowered (remaining (among dropped) (among (merged_in (remaining (among dropped) no_span (body_of found)))) (body_of found))) (without dropped (body_of found)) }
 {}

@@ -1,4 +1,4 @@
-//! The characters that a leaf of a syntax tree matches.
+//! The characters that a leaf of a syntax tree matches. A leaf is a `.`, a character, an escape, a reference or a class.
 
 ghost use Rattle.std.specs.Prelude.{◌≡◌, ℕ, Bool, ◌&&◌, ◌||◌, ◌==◌, not, IfOk, false};
 ghost use Rattle.rl_ranges.specs.Codes.{has, is_between, IsInside};
@@ -38,7 +38,7 @@ fn codes_between(
     }
 }
 
-/// Closes a set under case if the flags ask for it.
+/// Returns the set closed under case if the flags contain IGNORECASE, and otherwise the set itself.
 fn closed(universe: Universe, flags: Flags, set: CodeSet) -> Result<CodeSet, OutOfMemory>
     requires { IsInside universe set }
     ensures members { IfOk result (λ s. (p : ℕ → Bool) → ((c : ℕ) → has set c ≡ within universe p c)
@@ -52,7 +52,7 @@ fn closed(universe: Universe, flags: Flags, set: CodeSet) -> Result<CodeSet, Out
     }
 }
 
-/// Returns a named class or its complement.
+/// Returns the set of a named class, or its complement in the universe if `inverse` is `true`.
 fn kind_set(
     alloc: Global,
     universe: Universe,
@@ -107,7 +107,7 @@ fn member_codes(alloc: Global, universe: Universe, member: Member) -> Result<Cod
     }
 }
 
-/// Adds a class member to the set if it is a named class.
+/// Returns the set with the codes of a class member added if it is a named class.
 #[tactic(auto, using(crate::proofs::LeafLaws::or_none), unfolding(crate::specs::internal::LeafSets::class_in))]
 fn with_kind(
     alloc: Global,
@@ -176,7 +176,7 @@ fn members_set(
     codes.union(&kinds)
 }
 
-/// Returns the characters that `.` doesn't match.
+/// Returns the set of the codes that `.` doesn't match: the line feed, or none under DOTALL.
 fn left_out(alloc: Global, universe: Universe, flags: Flags) -> Result<CodeSet, OutOfMemory>
     ensures members { IfOk result (λ s. (c : ℕ) → has s c ≡ within universe (λ d. not flags.dot_all && d == 10) c) }
     ensures inside { IfOk result (IsInside universe) }
@@ -188,7 +188,7 @@ fn left_out(alloc: Global, universe: Universe, flags: Flags) -> Result<CodeSet, 
     }
 }
 
-/// Returns the characters that a leaf matches under the flags in force.
+/// Returns the set of the codes that a leaf matches under the flags in force. A reference to a group matches none here.
 ///
 /// # Errors
 /// [`OutOfMemory`] if there is no memory for the set.

@@ -1,11 +1,13 @@
-//! What the reader of patterns can be in the middle of.
+//! The states of the reader within a construct, and the classes of characters that decide how it goes on. A construct is what
+//! the reader is in the middle of, such as an escape, a class or the head of a group. A side is one end of a range, or a
+//! member of a class that is no range. Positions count codes from 0.
 
 use crate::flags::Flags;
 use crate::tree::{Assertion, Count, Escaped, Kind, Member};
 use rl_lists::Items;
 use rl_ranges::Named;
 
-/// The meaning of a character between items.
+/// The class of a character between items.
 #[derive(Clone, Copy)]
 pub(crate) enum TokenClass {
     /// `(`.
@@ -22,9 +24,9 @@ pub(crate) enum TokenClass {
     Dot,
     /// `[`.
     Bracket,
-    /// `*`, `+` or `?`.
+    /// `*`, `+` or `?`, with its minimum and maximum.
     Times(Count),
-    /// `^` or `$`.
+    /// `^` or `$`, as this anchor.
     Edge(Assertion),
     /// White space.
     Blank,
@@ -34,7 +36,7 @@ pub(crate) enum TokenClass {
     Plain,
 }
 
-/// The meaning of a character in an octal number.
+/// The class of a character as a digit.
 #[derive(Clone, Copy)]
 pub(crate) enum Numeral {
     /// A digit from 0 to 7, with its value.
@@ -56,19 +58,19 @@ pub(crate) enum EscapeClass {
     Hexes(u32),
     /// A name in braces follows.
     Naming,
-    /// A digit with this value, which begins an octal number of up to three digits.
+    /// A digit from 0 to 7 with this value, which begins an octal number of up to three digits.
     Octal(u32),
     /// A digit from 1 to 7 with this value, which begins three octal digits or a reference.
     Low(u32),
     /// 8 or 9, which begins a reference.
     High,
-    /// An anchor or a word boundary.
+    /// This anchor or word boundary.
     Edges(Assertion),
     /// Not an escape.
     NoEscape,
 }
 
-/// The meaning of a character after `(?`.
+/// The class of a character after `(?`.
 #[derive(Clone, Copy)]
 pub(crate) enum GroupPrefix {
     /// A flag letter.
@@ -93,7 +95,7 @@ pub(crate) enum GroupPrefix {
     NoHead,
 }
 
-/// The result of reading one character of a construct.
+/// The answer of a construct to one character.
 #[derive(Drop)]
 pub(crate) enum Answer<S, A> {
     /// The character can't continue the construct.
@@ -107,7 +109,7 @@ pub(crate) enum Answer<S, A> {
 /// The state within an escape, after the character that follows its backslash.
 #[derive(Clone, Copy)]
 pub(crate) enum InEscape {
-    /// This many hexadecimal digits are missing after digits with this value.
+    /// The first number says how many hexadecimal digits are missing, the second is the value of those that were read.
     InHex(u32, u32),
     /// After `\N`.
     NameBrace,
@@ -115,13 +117,13 @@ pub(crate) enum InEscape {
     NameBegins,
     /// After a character of the name.
     NameGoes,
-    /// Up to this many octal digits may follow digits with this value.
+    /// The first number says how many more octal digits may follow, the second is the value of those that were read.
     InOctal(u32, u32),
-    /// After a digit from 1 to 7.
+    /// After a first digit from 1 to 7 with this value.
     AfterLow(u32),
-    /// After 8 or 9.
+    /// After a first digit 8 or 9.
     AfterHigh,
-    /// After two octal digits, which are a reference unless a third one follows.
+    /// After two octal digits with this value together, which are a reference unless a third one follows.
     AfterTwo(u32),
 }
 
@@ -134,15 +136,15 @@ pub(crate) enum InSet {
     SetNext,
     /// After a backslash at this position.
     SetSlash(u32),
-    /// Within an escape that began at this position.
+    /// Within an escape that began at this position, in this state.
     SetEscape(u32, InEscape),
-    /// After one side of a member, which began at this position.
+    /// After one side of a member, which began at this position and has this meaning.
     SetSide(u32, Escaped),
-    /// After a side that began at the first position, and a `-` at the second.
+    /// After a side that began at the first position and has this meaning, and a `-` at the second position.
     SetDash(u32, u32, Escaped),
-    /// After a side that began at this position, a `-` and a backslash.
+    /// After a side that began at this position and has this meaning, a `-` and a backslash.
     DashSlash(u32, Escaped),
-    /// After a side that began at this position and a `-`, within an escape.
+    /// After a side that began at this position and has this meaning, and a `-`: within an escape, in this state.
     DashEscape(u32, Escaped, InEscape),
 }
 
@@ -168,7 +170,7 @@ pub(crate) enum InHead {
     AfterLess,
     /// After `(?P<`.
     GroupName,
-    /// Within the name of a group.
+    /// Within the name of a group, of which these codes were read.
     GroupNameGoes(Items<u32>),
     /// After `(?P=`.
     ReferenceName,
@@ -180,34 +182,34 @@ pub(crate) enum InHead {
     AsksDigits,
     /// Within the group name of a conditional.
     AsksNameGoes,
-    /// After flag letters.
+    /// After flag letters, which have these flags.
     LettersOn(Flags),
-    /// After flag letters and `-`.
+    /// After any flag letters, which have these flags, and `-`.
     LettersDash(Flags),
-    /// After flag letters, `-` and further letters.
+    /// After any flag letters, which have the first flags, `-`, and further letters, which have the second flags.
     LettersOff(Flags, Flags),
 }
 
-/// What a head turns out to begin.
+/// What the head of a group turns out to begin.
 #[derive(Drop)]
 pub(crate) enum GroupStart {
-    /// A group.
+    /// A group of this kind.
     BeginsGroup(Kind),
     /// A comment.
     BeginsComment,
     /// A reference to a named group.
     IsReference,
-    /// A flag group.
+    /// A flag group with these flags.
     IsFront(Flags),
 }
 
-/// The state within a repeat count.
+/// The state within the repeat count of a quantifier in braces.
 #[derive(Clone, Copy)]
 pub(crate) enum CountPart {
-    /// Within the digits of the minimum.
+    /// Before or within the digits of the minimum, which have this value so far.
     Least(u32),
-    /// After the minimum and a comma.
+    /// After this minimum and a comma.
     Upper(u32),
-    /// After the minimum and a comma, within the digits of the maximum.
+    /// After this minimum and a comma, within the digits of the maximum, which have the second value so far.
     Most(u32, u32),
 }

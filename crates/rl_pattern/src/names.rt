@@ -1,4 +1,4 @@
-//! Group names that occur twice.
+//! Group names that occur more than once.
 
 ghost use Rattle.std.specs.Prelude.{◌≡◌, ℕ, ◌+◌, ◌<◌, List, [], ◌++◌, map, IfOk};
 ghost use Rattle.rl_pattern.specs.internal.Views.{node_of, branch_of};
@@ -13,12 +13,12 @@ use rl_syntax::Feature;
 use std::alloc::Global;
 use std::collections::BTreeSet;
 
-/// The name of a group, and the position of its parenthesis.
+/// A group name in a pattern.
 #[derive(Drop)]
 struct Called {
-    /// The position.
+    /// The position of the opening parenthesis of its group.
     place: u32,
-    /// The name.
+    /// The codes of the name.
     name: Codes,
 }
 
@@ -106,7 +106,7 @@ fn branches_names(
     Ok(all)
 }
 
-/// Returns the first fault among the names. A name is a fault if it occurred before.
+/// Returns the first fault among the names, or `None` if no name occurs twice. A name is a fault if it occurred before.
 fn names_fault(alloc: Global, names: &[Called]) -> Result<Option<Fault>, OutOfMemory>
     ensures { IfOk result (λ o. o ≡ f.first_fault (f.name_faults [] (map called_of names.now))) }
 {
@@ -126,7 +126,7 @@ fn names_fault(alloc: Global, names: &[Called]) -> Result<Option<Fault>, OutOfMe
     Ok(best)
 }
 
-/// Returns the first duplicate group name in a body, as a fault at the group's parenthesis.
+/// Returns the first duplicate group name in a body, as a fault at the group's parenthesis, or `None` if no name occurs twice.
 ///
 /// # Errors
 /// [`OutOfMemory`] if there is no memory for the names.

@@ -22,17 +22,17 @@ use rl_ranges::{Codes, Universe};
 use rl_syntax::{Feature, Pattern};
 use std::alloc::Global;
 
-/// Why codes couldn't be parsed. Positions count codes from 0.
+/// The reason why codes give no pattern. Positions count codes from 0.
 #[derive(Clone, Copy)]
 pub enum PatError {
-    /// The codes aren't a pattern. The position is the length of the longest prefix that can be continued to a pattern.
+    /// The codes aren't a pattern. The number is the length of the longest prefix that can be continued to a pattern.
     Syntax(u32),
-    /// A group opens at this position while [`MOST_OPEN_GROUPS`](crate::MOST_OPEN_GROUPS) are open.
+    /// A group opens at this position while [`MOST_OPEN_GROUPS`](crate::MOST_OPEN_GROUPS) groups are open.
     TooDeep(u32),
-    /// There are more than 10,000 codes.
+    /// There are more than [`MOST_CODES`](crate::MOST_CODES) codes.
     TooLong,
-    /// The pattern has a feature that excludes it from judgement. This is the first one, with its position. If the flags of
-    /// the call are refused, the position is 0.
+    /// The pattern or a flag of the call is refused. This is the first feature that is refused, with its position. For a flag
+    /// of the call, the position is 0.
     Outside(u32, Feature),
     /// There was not enough memory.
     OutOfMemory,
@@ -49,7 +49,7 @@ impl From<OutOfMemory> for PatError {
     }
 }
 
-/// Builds the pattern of a syntax tree without outer anchors.
+/// Returns the pattern of a syntax tree without outer anchors.
 fn pattern_of(alloc: Global, left: Inner, universe: Universe) -> Result<Pattern, OutOfMemory>
     requires { IsPattern universe (shape universe (left_of left).body) }
     ensures { IfOk result (IsPatternOf universe (left_of left)) }
@@ -60,7 +60,7 @@ fn pattern_of(alloc: Global, left: Inner, universe: Universe) -> Result<Pattern,
     Ok(Pattern::new(body?, leading, trailing, universe))
 }
 
-/// Builds the result of parsing from the syntax tree that the codes spell.
+/// Returns the result of parsing if the codes spell this syntax tree: its pattern, or the fault that is reported.
 fn outcome(
     alloc: Global,
     whole: Whole,
@@ -76,16 +76,17 @@ fn outcome(
     }
 }
 
-/// Parses a pattern under the flags, by the grammar of Python's `re`.
+/// Returns the pattern that the codes spell under the flags of the call, by the grammar of Python's `re`. All codes must
+/// belong to the universe: below 0x110000 for `Str`, and below 256 for `Bytes`.
 ///
 /// # Errors
 /// [`PatError::OutOfMemory`] if there is not enough memory. Otherwise, the first of these that applies:
-/// - [`PatError::TooLong`] if there are more than 10,000 codes.
-/// - [`PatError::Outside`] at 0 if the flags contain LOCALE or exclude each other.
-/// - [`PatError::TooDeep`] if a group opens while the maximum number of groups are open, and the codes up to there can be
-///   continued to a pattern.
-/// - [`PatError::Syntax`] if the codes aren't a pattern.
-/// - [`PatError::Outside`] if the pattern has a feature that is refused.
+/// - [`PatError::TooLong`] if there are more than [`MOST_CODES`](crate::MOST_CODES) codes.
+/// - [`PatError::Outside`] at 0 if the flags contain LOCALE, or UNICODE together with ASCII or for a `bytes` pattern.
+/// - [`PatError::TooDeep`] if a group opens while [`MOST_OPEN_GROUPS`](crate::MOST_OPEN_GROUPS) groups are open, and the codes
+///   up to there can be continued to a pattern. It has the first such position, counting codes from 0.
+/// - [`PatError::Syntax`] if the codes aren't a pattern, with the length of the longest prefix that can be continued to one.
+/// - [`PatError::Outside`] if the pattern has a feature that is refused: the first one, with its position.
 pub fn parse(
     alloc: Global,
     codes: &Codes,

@@ -17,12 +17,12 @@ use rl_lists::OutOfMemory;
 use std::alloc::Global;
 use std::mem;
 
-/// Why codes give no syntax tree.
+/// The reason why codes give no syntax tree. Positions count codes from 0.
 #[derive(Clone, Copy)]
 pub(crate) enum ReadError {
     /// The codes aren't a pattern. The number is the length of the longest prefix that can be continued to a pattern.
     Syntax(u32),
-    /// The code at this position opens a group while [`MOST_OPEN_GROUPS`] are open.
+    /// The code at this position opens a group while [`MOST_OPEN_GROUPS`] groups are open.
     TooDeep(u32),
     /// There was not enough memory.
     OutOfMemory,
@@ -76,7 +76,7 @@ fn at_paren(lex: &Lex) -> bool
     }
 }
 
-/// Whether a group opens at `place` while [`MOST_OPEN_GROUPS`] are open, given the state after its parenthesis.
+/// Whether a group opens at `place` while [`MOST_OPEN_GROUPS`] groups are open, given the state after its parenthesis.
 fn is_too_deep(state: &State, codes: &[u32], place: u32) -> bool
     ensures { result ≡ is_too_deep (state_of state.now) codes.now place }
 {
@@ -85,7 +85,8 @@ fn is_too_deep(state: &State, codes: &[u32], place: u32) -> bool
         && !opens_none(codes, place as usize)
 }
 
-/// Reads the code at `place`. Fails if no pattern can continue with it, or if too many groups are open.
+/// Reads the code at `place`. Returns an error if no pattern can continue with it, or if it opens a group while
+/// [`MOST_OPEN_GROUPS`] groups are open.
 fn one_code(
     alloc: Global,
     codes: &[u32],
@@ -112,7 +113,8 @@ fn one_code(
     }
 }
 
-/// Returns the syntax tree if the codes end at `place`.
+/// Returns the syntax tree if a pattern may end at `place`, which is the number of the codes, and otherwise a syntax error
+/// there.
 fn at_end(alloc: Global, state: State, place: u32) -> Result<Whole, ReadError>
     requires room { place < 2 ^ 32 - 1 }
     requires fits { FitsAt (state_of state).lex place }
@@ -127,12 +129,13 @@ fn at_end(alloc: Global, state: State, place: u32) -> Result<Whole, ReadError>
     }
 }
 
-/// Reads the syntax tree that the codes spell under the flags. `text` says whether they are a `str`.
+/// Returns the syntax tree that the codes spell under the flags of the call. There must be at most [`MOST_CODES`] codes.
+/// `text` says whether they are a `str`.
 ///
 /// # Errors
-/// - [`ReadError::TooDeep`] with the first position at which a group opens while [`MOST_OPEN_GROUPS`] are open.
-/// - [`ReadError::Syntax`] if the codes aren't a pattern, with the length of the longest prefix that can be continued to
-///   one.
+/// The one that the reader meets first, from left to right:
+/// - [`ReadError::TooDeep`] with the first position at which a group opens while [`MOST_OPEN_GROUPS`] groups are open.
+/// - [`ReadError::Syntax`] if the codes aren't a pattern, with the length of the longest prefix that can be continued to one.
 /// - [`ReadError::OutOfMemory`] if there is not enough memory.
 pub(crate) fn read(
     alloc: Global,

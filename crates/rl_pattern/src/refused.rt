@@ -1,4 +1,4 @@
-//! The judgement on a whole pattern.
+//! The judgement on a whole pattern: the fault that is reported, or the pattern without its outer anchors.
 
 ghost use Rattle.std.specs.Prelude.{◌≡◌, IfOk};
 ghost use Rattle.rl_pattern.specs.internal.Views.{whole_of};
@@ -15,13 +15,13 @@ use std::alloc::Global;
 /// The judgement on a whole pattern.
 #[derive(Drop)]
 pub(crate) enum Judged {
-    /// The pattern is refused because of this fault, its first one.
+    /// The pattern is refused because of this fault, the one that is reported.
     Refused(Fault),
     /// Nothing is refused. This is the pattern without its outer anchors.
     Left(Inner),
 }
 
-/// Judges a whole pattern under the flags of the call. `text` says whether the pattern is a `str`.
+/// Returns the judgement on a whole pattern under the flags of the call. `text` says whether the pattern is a `str`.
 ///
 /// # Errors
 /// [`OutOfMemory`] if there is no memory for the names of groups or for a branch.

@@ -1,4 +1,6 @@
-//! The reader within a class.
+//! The reader within a class, which is a set of characters in brackets. The answer of a class to a character is that the
+//! character can't continue it (`Stops`), the next state within it (`Goes`), or its members if the character completes it
+//! (`Ends`).
 
 ghost use Rattle.std.specs.Prelude.{◌≡◌, ℕ, ◌<◌, ◌^◌, ◌-◌, [], ◌∷◌, ◌++◌, Some, IfOk};
 ghost use Rattle.rl_pattern.specs.Codes.{code_of};
@@ -14,7 +16,7 @@ use rl_syntax::Span;
 
 type SetAnswer = Answer<Set, Items<Member>>;
 
-/// Appends a member.
+/// Returns the members with one more at the end.
 fn with_member(mut before: Items<Member>, member: Member) -> Result<Items<Member>, OutOfMemory>
     ensures { IfOk result (λ members. members ≡ before ++ member ∷ []) }
 {
@@ -25,14 +27,14 @@ fn with_member(mut before: Items<Member>, member: Member) -> Result<Items<Member
     Ok(before)
 }
 
-/// Continues the class in the given state.
+/// Returns the answer of a class that continues in this state.
 fn in_set(before: Items<Member>, part: InSet) -> SetAnswer
     ensures { result ≡ in_set before part }
 {
     Answer::Goes(Set { before, part })
 }
 
-/// Reads the first character of a member.
+/// Returns the answer of a class to the first character of a member, at position `i`.
 fn side_first(i: u32, before: Items<Member>, code: u32) -> SetAnswer
     ensures { result ≡ side_first i before code }
 {
@@ -43,7 +45,7 @@ fn side_first(i: u32, before: Items<Member>, code: u32) -> SetAnswer
     }
 }
 
-/// Reads the first character of a further member, or the end of the class.
+/// Returns the answer of a class to the first character of a further member, or to the `]` that ends the class.
 fn member_first(i: u32, before: Items<Member>, code: u32) -> SetAnswer
     ensures { result ≡ member_first i before code }
 {
@@ -54,7 +56,7 @@ fn member_first(i: u32, before: Items<Member>, code: u32) -> SetAnswer
     }
 }
 
-/// Reads the character after a side of a member.
+/// Returns the answer of a class to the character at `i` after a side of a member, which began at `from`.
 fn side_next(
     i: u32,
     before: Items<Member>,
@@ -71,7 +73,7 @@ fn side_next(
     Ok(member_first(i, with_member(before, Member::One(span, side))?, code))
 }
 
-/// Ends a range at `upto`.
+/// Returns the answer of a class to the end of a range from `from` up to `upto`. It stops if the last side is a named class.
 fn range_ends(
     upto: u32,
     before: Items<Member>,
@@ -88,7 +90,8 @@ fn range_ends(
     Ok(in_set(with_member(before, range)?, InSet::SetNext))
 }
 
-/// Reads the character after a backslash that begins a member.
+/// Returns the answer of a class to the character after a backslash that begins a member at `from`, given the answer of the
+/// escape.
 fn escape_in_set(before: Items<Member>, from: u32, answer: Answer<InEscape, Escaped>) -> SetAnswer
     ensures { result ≡ escape_in_set before from answer }
 {
@@ -99,7 +102,8 @@ fn escape_in_set(before: Items<Member>, from: u32, answer: Answer<InEscape, Esca
     }
 }
 
-/// Reads a character within an escape that began a member.
+/// Returns the answer of a class to a character in an escape that began a member at `from`, given the answer of the escape. If
+/// the escape stops, it may have ended before the character, with the result `rest`.
 fn escape_set_next(
     i: u32,
     before: Items<Member>,
@@ -120,7 +124,8 @@ fn escape_set_next(
     }
 }
 
-/// Reads the character after a backslash that follows a `-`.
+/// Returns the answer of a class to the character after a backslash that follows a side and a `-`, given the answer of the
+/// escape.
 fn escape_in_dash(
     i: u32,
     before: Items<Member>,
@@ -138,7 +143,8 @@ fn escape_in_dash(
     }
 }
 
-/// Reads the character at `i` after a range. Stops if the last side of the range is a named class.
+/// Returns the answer of a class to the character at `i` after a range. It stops if the last side of the range is a named
+/// class.
 fn behind_range(
     i: u32,
     before: Items<Member>,
@@ -156,7 +162,8 @@ fn behind_range(
     Ok(member_first(i, with_member(before, range)?, code))
 }
 
-/// Reads a character within an escape after a `-`.
+/// Returns the answer of a class to a character in an escape that follows a side and a `-`, given the answer of the escape. If
+/// the escape stops, it may have ended before the character, with the result `rest`.
 fn escape_dash_next(
     i: u32,
     before: Items<Member>,
@@ -179,7 +186,8 @@ fn escape_dash_next(
     }
 }
 
-/// Ends the class after a side and a `-` at `dash`. Both are members of their own.
+/// Returns the answer of a class to the `]` at `i` after a side and a `-` at `dash`: the class ends, and both are members of
+/// their own.
 fn ends_at_dash(
     i: u32,
     before: Items<Member>,
@@ -200,7 +208,7 @@ fn ends_at_dash(
     Ok(Answer::Ends(with_member(with_member(before, side)?, dash)?))
 }
 
-/// Reads the character after a side and a `-` at `dash`.
+/// Returns the answer of a class to the character at `i` after a side and a `-` at `dash`.
 fn dash_next(
     i: u32,
     before: Items<Member>,
@@ -224,7 +232,8 @@ fn dash_next(
     range_ends(i + 1, before, from, first, Escaped::Code(code))
 }
 
-/// Reads the character at `i` of a class. `text` says whether the pattern is a `str`.
+/// Returns the answer of a class in the state `part`, after the members `before`, to the character at `i`, which must be less
+/// than 2^32 - 1. `text` says whether the pattern is a `str`.
 pub(crate) fn set_step(
     text: bool,
     i: u32,

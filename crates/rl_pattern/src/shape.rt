@@ -1,4 +1,4 @@
-//! Turning a syntax tree into a pattern.
+//! Turning a syntax tree into a pattern. A pattern part is a node of the pattern's body with everything in it.
 
 ghost use Rattle.std.specs.Prelude.{◌≡◌, ℕ, ◌<◌, ◌≤◌, ◌++◌, List, map, IfOk};
 ghost use Rattle.rl_syntax.specs.PatTree as s;
@@ -16,7 +16,7 @@ use rl_ranges::{CodeSet, Universe};
 use rl_syntax::{AnchorKind, Branch, Branches, Feature, Pat, Pats, Span};
 use std::alloc::Global;
 
-/// Whether the universe is that of `str`.
+/// Whether it is the universe of `str`, not of `bytes`.
 pub(crate) fn is_text(universe: Universe) -> bool
     ensures { result ≡ p.is_text universe }
 {
@@ -26,7 +26,7 @@ pub(crate) fn is_text(universe: Universe) -> bool
     }
 }
 
-/// Returns the class of a leaf.
+/// Returns the class of a leaf, with the set of the codes that it matches.
 fn leaf_pat(
     alloc: Global,
     universe: Universe,
@@ -74,7 +74,7 @@ fn mark_pat(universe: Universe, span: Span, flags: Flags, mark: Assertion) -> Pa
     }
 }
 
-/// Whether a quantifier tries more repetitions first.
+/// Whether a quantifier is greedy. A lazy or possessive one isn't.
 fn is_greedy(greed: Greed) -> bool
     ensures { result ≡ p.is_greedy greed }
 {
@@ -84,7 +84,7 @@ fn is_greedy(greed: Greed) -> bool
     }
 }
 
-/// Builds a repeat.
+/// Returns a repeat with this body.
 fn repeat_pat(
     alloc: Global,
     span: Span,
@@ -106,7 +106,7 @@ fn repeat_pat(
     })
 }
 
-/// Builds a group of a kind that is judged.
+/// Returns a group with this body. `captures` says whether it captures.
 fn group_of(alloc: Global, span: Span, captures: bool, body: Pat) -> Result<Pat, OutOfMemory>
     ensures { IfOk result (λ found. pat_of found ≡ s.group span captures (pat_of body)) }
 {
@@ -118,7 +118,8 @@ fn group_of(alloc: Global, span: Span, captures: bool, body: Pat) -> Result<Pat,
     })
 }
 
-/// Builds a group of any kind. A kind that is refused becomes [`Pat::Outside`].
+/// Returns a group of this kind with this body. A lookaround, an atomic group or a conditional becomes [`Pat::Outside`], and
+/// the body is dropped.
 fn group_pat(alloc: Global, span: Span, kind: &Kind, body: Pat) -> Result<Pat, OutOfMemory>
     ensures { IfOk result (λ found. pat_of found ≡ p.group_shape span kind.now (pat_of body)) }
 {
@@ -149,14 +150,15 @@ fn group_pat(alloc: Global, span: Span, kind: &Kind, body: Pat) -> Result<Pat, O
     }
 }
 
-/// Builds a branch with its span.
+/// Returns the branch with this span and body.
 fn branch_at(span: Span, body: Pat) -> Branch
     ensures { branch_tree result ≡ (span, pat_of body) }
 {
     Branch { span, body }
 }
 
-/// Turns a node into a part of a pattern over the universe. A group that is refused becomes [`Pat::Outside`].
+/// Returns the pattern part of a node, over the universe. A lookaround, an atomic group or a conditional becomes
+/// [`Pat::Outside`].
 ///
 /// # Errors
 /// [`OutOfMemory`] if there is no memory for the pattern.
@@ -194,7 +196,7 @@ pub(crate) fn node_pat(
     }
 }
 
-/// Turns a sequence of nodes into parts of a pattern.
+/// Returns the pattern parts of a sequence of nodes, in order.
 #[cycle(shape)]
 fn item_pats(alloc: Global, universe: Universe, nodes: &[SyntaxNode]) -> Result<Pats, OutOfMemory>
     ensures { IfOk result (λ ps. map pat_of ps ≡ p.shapes universe (t.nodes (map node_of nodes.now))) }
@@ -213,7 +215,7 @@ fn item_pats(alloc: Global, universe: Universe, nodes: &[SyntaxNode]) -> Result<
     Ok(items)
 }
 
-/// Turns branches of the syntax tree into branches of a pattern.
+/// Returns the branches of a pattern for branches of the syntax tree, in order.
 #[cycle(shape)]
 fn branch_pats(
     alloc: Global,

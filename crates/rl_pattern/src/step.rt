@@ -1,4 +1,6 @@
-//! The reader of patterns, one character at a time.
+//! The reader of patterns, one character at a time. A function that reads a character returns what the reader is in the middle
+//! of afterwards, or `None` if no pattern can continue with the character. What has been read is added to `base`. Positions
+//! count codes from 0.
 
 ghost use Rattle.std.specs.Prelude.{◌≡◌, ℕ, ◌<◌, ◌^◌, ◌-◌, ◌+◌, suc, length, IfOk, Some};
 ghost use Rattle.rl_pattern.specs.internal.Views.{node_of, base_of, lex_of, state_with, FitsAt};
@@ -21,7 +23,7 @@ use rl_lists::{Items, OutOfMemory};
 use rl_syntax::Span;
 use std::alloc::Global;
 
-/// Adds a leaf. The reader is between items afterwards.
+/// Adds a leaf from `from` up to `upto`. The reader is between items afterwards.
 fn leaf_between(
     base: &mut Base,
     from: u32,
@@ -34,7 +36,7 @@ fn leaf_between(
     Ok(Some(Lex::Between))
 }
 
-/// Adds an anchor or a word boundary from `from` up to `upto`.
+/// Adds an anchor or a word boundary from `from` up to `upto`. The reader is between items afterwards.
 fn put_mark(
     base: &mut Base,
     from: u32,
@@ -75,7 +77,8 @@ fn go_on(alloc: Global, i: u32, base: &mut Base, code: u32) -> Result<Option<Lex
     }
 }
 
-/// Reads the `}` at `i` of a brace at `from`.
+/// Reads the `}` at `i` that follows a brace at `from` and this text, given the count that the text spells, or `None` if it
+/// spells none.
 fn end_braces(
     i: u32,
     base: &mut Base,
@@ -96,7 +99,7 @@ fn end_braces(
     }
 }
 
-/// Reads the character at `i` after a brace at `from` and some text.
+/// Reads the character at `i` after a brace at `from` and this text.
 fn braces_step(
     alloc: Global,
     i: u32,
@@ -128,7 +131,7 @@ fn braces_step(
     go_on(alloc, i, base, code)
 }
 
-/// Adds an atom with its quantifier. The reader is between items afterwards.
+/// Adds an atom that began at `from`, with its quantifier, which has the span `mark`. The reader is between items afterwards.
 fn repeat_between(
     alloc: Global,
     base: &mut Base,
@@ -176,7 +179,7 @@ fn counted_step(
     go_on(alloc, i, base, code)
 }
 
-/// Reads the character at `i` after a backslash at `from`, given the escape that begins there.
+/// Reads the character at `i` after a backslash at `from`, given the answer of the escape to it.
 fn escape_begins(
     i: u32,
     base: &mut Base,
@@ -193,7 +196,7 @@ fn escape_begins(
     }
 }
 
-/// Reads the character at `i` after a backslash at `from`.
+/// Reads the character at `i` after a backslash at `from`, given what it means there.
 fn slash_step(
     i: u32,
     base: &mut Base,
@@ -216,7 +219,7 @@ fn slash_step(
     }
 }
 
-/// Reads the character at `i` of an escape from `from`, which may have ended before it.
+/// Reads the character at `i` in an escape that began at `from`. The escape may have ended before it.
 fn escape_step(
     alloc: Global,
     i: u32,
@@ -241,7 +244,7 @@ fn escape_step(
     }
 }
 
-/// Completes a head from `from` up to `upto`, given what it begins.
+/// Completes the head of a group from `from` up to `upto`, given what it begins.
 fn begin(
     alloc: Global,
     base: &mut Base,
@@ -264,8 +267,8 @@ fn begin(
     }
 }
 
-/// Reads the character at `i`, which doesn't continue a head from `from`. If `opens` is set, only the parenthesis was read,
-/// and it opens a capturing group.
+/// Reads the character at `i`, which doesn't continue the head of a group from `from`. If `opens` is `true`, only the
+/// parenthesis was read, and it opens a capturing group.
 fn head_stops(
     alloc: Global,
     i: u32,
@@ -284,7 +287,7 @@ fn head_stops(
     go_on(alloc, i, base, code)
 }
 
-/// Reads the character at `i` of a head from `from`.
+/// Reads the character at `i` in the head of a group that began at `from`.
 fn in_head_step(
     alloc: Global,
     text: bool,
@@ -305,7 +308,7 @@ fn in_head_step(
     }
 }
 
-/// Reads the character at `i` of a class from `from`.
+/// Reads the character at `i` in a class that began at `from`. `inverse` says whether the class begins with `^`.
 fn class_step(
     text: bool,
     i: u32,
@@ -328,7 +331,7 @@ fn class_step(
     }
 }
 
-/// Reads the character at `i` after a bracket at `from`.
+/// Reads the character at `i` after the bracket of a class at `from`.
 fn set_opens(
     alloc: Global,
     text: bool,
@@ -351,8 +354,9 @@ fn set_opens(
     }
 }
 
-/// Reads the character at `i`, and returns what the reader is in the middle of then, or `None` if no pattern can continue
-/// with it. `text` says whether the pattern is a `str`.
+/// Reads the character at `i`, which must be less than 2^32 - 1. Within braces, `i` must be the position after the text that
+/// was read. Returns what the reader is in the middle of afterwards, or `None` if no pattern can continue with the character.
+/// `text` says whether the pattern is a `str`.
 pub(crate) fn step(
     alloc: Global,
     text: bool,

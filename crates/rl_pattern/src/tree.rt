@@ -1,12 +1,13 @@
 //! The syntax tree that codes spell. It still contains what is refused later: features, faults in quantifiers and class
-//! members, and duplicate group names.
+//! members, and duplicate group names. Spans count codes from 0. A branch is one of the alternatives that `|` separates, and a
+//! body is what a group or the whole pattern consists of.
 
 use crate::flags::Flags;
 use rl_lists::Items;
 use rl_ranges::Named;
 use rl_syntax::Span;
 
-/// The minimum and maximum of a quantifier. Any number that is too large is stored as 4,294,967,295.
+/// The minimum and maximum of a quantifier. A number greater than 4,294,967,295 is stored as that.
 #[derive(Clone, Copy)]
 pub(crate) struct Count {
     /// The minimum.
@@ -26,14 +27,14 @@ pub(crate) enum Greed {
     Possessive,
 }
 
-/// The meaning of a character or an escape, in or outside a class.
+/// The meaning of a character, an escape or a reference, in or outside a class.
 #[derive(Clone, Copy)]
 pub(crate) enum Escaped {
     /// One code.
     Code(u32),
     /// A number that is too large to be a code.
     TooLarge,
-    /// `\N{..}`.
+    /// A character by its name: `\N{..}`.
     ByName,
     /// `\d`, `\s` or `\w`, or the complement `\D`, `\S` or `\W` if the flag is `true`.
     Kind(Named, bool),
@@ -41,21 +42,21 @@ pub(crate) enum Escaped {
     Reference,
 }
 
-/// A member of a class.
+/// A member of a class, with its span.
 #[derive(Clone, Copy)]
 pub(crate) enum Member {
     /// A character or an escape.
     One(Span, Escaped),
-    /// A range of characters.
+    /// A range of characters, from its first to its last side.
     Range(Span, Escaped, Escaped),
 }
 
-/// A node that matches one character.
+/// A leaf: a node that matches one character, or a reference to a group.
 #[derive(Drop)]
 pub(crate) enum Leaf {
     /// `.`.
     Any,
-    /// A character or an escape.
+    /// A character, an escape or a reference to a group.
     Glyph(Escaped),
     /// A class. The flag says whether it begins with `^`.
     Members(bool, Items<Member>),
@@ -81,9 +82,9 @@ pub(crate) enum Assertion {
 pub(crate) enum Kind {
     /// `(..)`.
     Capturing,
-    /// `(?P<name>..)`.
+    /// `(?P<name>..)`, with the codes of the name.
     Named(Items<u32>),
-    /// A group that doesn't capture, with the flag letters before and after its `-`.
+    /// A group that doesn't capture, with the flag letters before its `-` and those after it. Each may have none.
     Scoped(Flags, Flags),
     /// A lookahead or lookbehind.
     Lookaround,
@@ -93,19 +94,19 @@ pub(crate) enum Kind {
     Conditional,
 }
 
-/// A part of a pattern, with its span and the flags in force.
+/// A node of the syntax tree, with its span, and with the flags in force if they matter.
 #[cycle(node)]
 #[derive(Drop)]
 pub(crate) enum SyntaxNode {
-    /// A leaf, which matches one character.
+    /// A leaf.
     Leaf(Span, Flags, Leaf),
     /// An anchor or a word boundary.
     Assertion(Span, Flags, Assertion),
-    /// A repeated body. The second span is the quantifier's.
+    /// A repeated body, with its quantifier. The second span is the quantifier's.
     Repeat(Span, Span, Count, Greed, Box<SyntaxNode>),
     /// A group.
     Group(Span, Kind, Box<SyntaxNode>),
-    /// An empty branch.
+    /// An empty body.
     Nothing(Span),
     /// A sequence of items.
     Seq(Span, Items<SyntaxNode>),
@@ -113,11 +114,11 @@ pub(crate) enum SyntaxNode {
     Choice(Span, Items<Branch>),
 }
 
-/// A branch, with a span that includes ignored white space and comments.
+/// A branch of a body.
 #[cycle(node)]
 #[derive(Drop)]
 pub(crate) struct Branch {
-    /// The span of everything between the branch's delimiters.
+    /// The span of everything between the branch's delimiters, including ignored white space and comments.
     pub(crate) place: Span,
     /// What the branch consists of.
     pub(crate) body: SyntaxNode,
@@ -128,11 +129,11 @@ pub(crate) struct Branch {
 pub(crate) struct Front {
     /// The span of the group.
     pub(crate) place: Span,
-    /// Its letters.
+    /// The flags of its letters.
     pub(crate) letters: Flags,
 }
 
-/// A whole pattern: the flag groups at its front, and its body after them.
+/// A whole pattern: the flag groups at its front, and what follows them.
 #[derive(Drop)]
 pub(crate) struct Whole {
     /// The flag groups at the front.

@@ -17,12 +17,12 @@ use Rattle.rl_syntax.specs.Tree.{Tree, empty, one, guard, both, either, many, si
 use Rattle.rl_syntax.specs.declared.limits.TheConstants.{MOST_NODES}
 use Rattle.rl_prio.specs.Items.{Item, test_at, pass, after, set_of, all_hold}
 use Rattle.rl_prio.specs.Letters.{all_sets, kinds, kind_of}
-use Rattle.rl_prio.specs.States.{place_states, state_of, accepting, dead, state_count, test_target, ends_here, pass_target, moves_on, items_of, kind_before, moves_over}
+use Rattle.rl_prio.specs.States.{place_states, state_of, accepting, dead, state_count, test_target, ends_here, end_target, moves_on, items_of, kind_before, moves_over}
 use Rattle.rl_prio.specs.Automaton.{Automaton, IsAutomaton}
 use Rattle.rl_prio.specs.StandsFor.{StandsOver}
 use Rattle.rl_prio.specs.internal.GuardSets.{guard_set, shown, holding}
 use Rattle.rl_prio.specs.internal.Attempts.{attempts, lists_of}
-use Rattle.rl_prio.specs.internal.Plans.{plan_letters, plan_kinds, plan_places, plan_states, holds_at, test_goes, may_end, end_goes, moves_of, attempts_at, before_at, row_at, IsPlaced, IsSound, AreRows, IsPlan}
+use Rattle.rl_prio.specs.internal.Plans.{plan_letters, plan_kinds, plan_place_states, plan_states, holds_at, test_goes, may_end, end_goes, moves_of, attempts_at, before_at, row_at, IsPlaced, IsSound, AreRows, IsPlan}
 use Rattle.rl_prio.specs.declared.build.guards.Shown.{Shown}
 use Rattle.rl_prio.specs.declared.build.attempts.Attempt.TheVariants.{Test, End}
 use Rattle.rl_prio.specs.declared.build.plan.Plan.{Plan}
@@ -150,7 +150,7 @@ module _ (p : Plan) (t : Tree) (sets : List (ℕ → Bool)) (n : ℕ) (lt kt : L
     places_are : length p.after.items ≡ places t
     places_are = ap length plan.same_after ∙ length-map (lists_of t 0) attempts ∙ length-lists_of t 0
 
-    place_states_are : plan_places p ≡ place_states t n
+    place_states_are : plan_place_states p ≡ place_states t n
     place_states_are = ap₂ (λ x y. x * y) places_are kinds_are
 
     some_kind : 0 < length (kinds t n)
@@ -194,13 +194,13 @@ module _ (p : Plan) (t : Tree) (sets : List (ℕ → Bool)) (n : ℕ) (lt kt : L
           | inl h ↦
               let below : r / g < places t = (div-lt_iff_lt-mul {k = g} {x = r} {y = places t} some_kind).1 h in
               let known : r / g < length (lists_of t 0) = omega (arith, length-lists_of t 0) in
-              cond-true (nat_lt r (plan_places p)) there [] (lt-ltb r (plan_places p) (omega (arith, place_states_are)))
+              cond-true (nat_lt r (plan_place_states p)) there [] (lt-ltb r (plan_place_states p) (omega (arith, place_states_are)))
               ∙ ap (λ k. get_or p.after.items (r / k) []) kinds_are
               ∙ ap (λ l. get_or l (r / g) []) plan.same_after
               ∙ get_or-map attempts (lists_of t 0) (r / g) [] [] known
               ∙ ap attempts (lists-at t (r / g) below ∙ sym (cond-true (nat_lt r (place_states t n)) here [] (lt-ltb r (place_states t n) h)))
           | inr h ↦
-              cond-false (nat_lt r (plan_places p)) there [] (le-ltb r (plan_places p) (omega (arith, place_states_are)))
+              cond-false (nat_lt r (plan_place_states p)) there [] (le-ltb r (plan_place_states p) (omega (arith, place_states_are)))
               ∙ ap attempts (sym (cond-false (nat_lt r (place_states t n)) here [] (le-ltb r (place_states t n) h)))
         ]
 
@@ -257,7 +257,7 @@ module _ (p : Plan) (t : Tree) (sets : List (ℕ → Bool)) (n : ℕ) (lt kt : L
           ∙ class_of-same (guard_sets t) n s (get_or (classes sets n) l 0)
           (Finer-right sets (sets_in t) (guard_sets t) finer s (get_or (classes sets n) l 0) (sample-alike lt sets n l is_letters l_in))
 
-      dead-is : plan_places p + 2 ≡ dead t n
+      dead-is : plan_place_states p + 2 ≡ dead t n
       dead-is = omega (arith, place_states_are)
 
       test-same : (place l : ℕ) → place < places t → test_goes p place l ≡ test_target t n place (slice_get (classes sets n) l)
@@ -268,14 +268,14 @@ module _ (p : Plan) (t : Tree) (sets : List (ℕ → Bool)) (n : ℕ) (lt kt : L
             let known : l < length (classes sets n) = omega (arith, is_letters.same_count) in
             let state : suc (place * plan_kinds p + get_or p.kinds_of.items l 0) ≡ state_of t n place (kind_of t n r) =
             ap₂ (λ g k. suc (place * g + k)) kinds_are (kind-is l l_in) in
-            ap (λ b. if b then suc (place * plan_kinds p + get_or p.kinds_of.items l 0) else plan_places p + 2) (holds-set place l p_in l_in)
+            ap (λ b. if b then suc (place * plan_kinds p + get_or p.kinds_of.items l 0) else plan_place_states p + 2) (holds-set place l p_in l_in)
             ∙ ap₂ (λ x y. if set_of t 0 place r then x else y) state dead-is
             ∙ ap (test_target t n place) (sym (slice_get-get_or (classes sets n) l 0 known))
         | inr beyond ↦
             let past : length (classes sets n) ≤ l = omega (arith, is_letters.same_count) in
             let miss : holds_at p place l ≡ false =
             ap (λ b. b && get_or (get_or p.members.items place []) l false) (le-ltb l (plan_letters p) (omega (arith, letters_are))) in
-            cond-false (holds_at p place l) (suc (place * plan_kinds p + get_or p.kinds_of.items l 0)) (plan_places p + 2) miss
+            cond-false (holds_at p place l) (suc (place * plan_kinds p + get_or p.kinds_of.items l 0)) (plan_place_states p + 2) miss
             ∙ dead-is ∙ ap (test_target t n place) (sym (slice_get_past (classes sets n) l past))
       ]
 
@@ -290,12 +290,12 @@ module _ (p : Plan) (t : Tree) (sets : List (ℕ → Bool)) (n : ℕ) (lt kt : L
             eq-eqb l (plan_letters p) (omega (arith, letters_are)) ∙ ap (ends_here AtEnd) (sym (slice_get_past (classes sets n) l past))
       ]
 
-      end-same : (l : ℕ) → l ≤ length lt.samples → end_goes p l ≡ pass_target t ending n (slice_get (classes sets n) l)
+      end-same : (l : ℕ) → l ≤ length lt.samples → end_goes p l ≡ end_target t ending n (slice_get (classes sets n) l)
       unfolding end_goes
       end-same l le =
-          let acc : plan_places p + 1 ≡ accepting t n = omega (arith, place_states_are) in
-          ap (λ e. if may_end e l (plan_letters p) then plan_places p + 1 else plan_places p + 2) plan.same_ending
-          ∙ ap (λ b. if b then plan_places p + 1 else plan_places p + 2) (may_end-is ending l le)
+          let acc : plan_place_states p + 1 ≡ accepting t n = omega (arith, place_states_are) in
+          ap (λ e. if may_end e l (plan_letters p) then plan_place_states p + 1 else plan_place_states p + 2) plan.same_ending
+          ∙ ap (λ b. if b then plan_place_states p + 1 else plan_place_states p + 2) (may_end-is ending l le)
           ∙ ap₂ (λ x y. if ends_here ending (slice_get (classes sets n) l) then x else y) acc dead-is
 
       moves-same : (l : ℕ) (b c d : Option ℕ) → l ≤ length lt.samples → Like (guard_sets t) b c → Like sets d (slice_get (classes sets n) l) → (items : List Item)
@@ -345,9 +345,9 @@ module _ (p : Plan) (t : Tree) (sets : List (ℕ → Bool)) (n : ℕ) (lt kt : L
       moves-below l before (pass gs ∷ items) known =
           let o = slice_get (classes sets n) l in
           let P : ℕ → Type 0 = λ x. x < state_count t n in
-          All-append P (if all_hold gs before o then pass_target t ending n o ∷ [] else []) (moves_on t ending n before o items)
-          (cond_both (all_hold gs before o) (pass_target t ending n o ∷ []) [] (All P)
-          (λ _. All-cons P (pass_target t ending n o) [] (cond_both (ends_here ending o) (accepting t n) (dead t n) P (λ _. omega arith) (λ _. omega arith)) (All-nil P)) (λ _. All-nil P))
+          All-append P (if all_hold gs before o then end_target t ending n o ∷ [] else []) (moves_on t ending n before o items)
+          (cond_both (all_hold gs before o) (end_target t ending n o ∷ []) [] (All P)
+          (λ _. All-cons P (end_target t ending n o) [] (cond_both (ends_here ending o) (accepting t n) (dead t n) P (λ _. omega arith) (λ _. omega arith)) (All-nil P)) (λ _. All-nil P))
           (moves-below l before items known.1)
 
       -- Beyond the states of places there is no move.
@@ -375,11 +375,11 @@ module _ (p : Plan) (t : Tree) (sets : List (ℕ → Bool)) (n : ℕ) (lt kt : L
             subst (All (λ target. target < plan_states p)) (sym (read q l q_in l_in))
             (subst (λ m. All (λ target. target < m) (moves_over sets t ending n q l)) (sym states_are) (moves-below l (kind_before t n q) (items_of t n q) (known-items q))))
             (λ l l_in.
-            let at : plan_states p - 2 ≡ suc (plan_places p) = omega arith in
-            read (plan_states p - 2) l (omega arith) l_in ∙ ap (λ q. moves_over sets t ending n q l) at ∙ stopped (plan_places p) l (omega (arith, place_states_are)))
+            let at : plan_states p - 2 ≡ suc (plan_place_states p) = omega arith in
+            read (plan_states p - 2) l (omega arith) l_in ∙ ap (λ q. moves_over sets t ending n q l) at ∙ stopped (plan_place_states p) l (omega (arith, place_states_are)))
             (λ l l_in.
-            let at : plan_states p - 1 ≡ suc (suc (plan_places p)) = omega arith in
-            read (plan_states p - 1) l (omega arith) l_in ∙ ap (λ q. moves_over sets t ending n q l) at ∙ stopped (suc (plan_places p)) l (omega (arith, place_states_are)))
+            let at : plan_states p - 1 ≡ suc (suc (plan_place_states p)) = omega arith in
+            read (plan_states p - 1) l (omega arith) l_in ∙ ap (λ q. moves_over sets t ending n q l) at ∙ stopped (suc (plan_place_states p)) l (omega (arith, place_states_are)))
 
         pub stands : StandsOver (record { table = lt; states = plan_states p; rows = rows }) t ending sets
         stands = record {
@@ -396,17 +396,9 @@ pub too_many : (x : LettersError) → letters_error x ≡ Letters → x ≡ TooM
 too_many TooMany e = refl
 too_many OutOfMemory e = cc
 
-pub not_moves : (x : LettersError) → letters_error x ≡ Moves → ⊥
-not_moves TooMany e = cc
-not_moves OutOfMemory e = cc
-
 pub too_long : (x : ListError) → list_error x ≡ Moves → x ≡ TooLong
 too_long TooLong e = refl
 too_long NoRoom e = cc
-
-pub not_letters : (x : ListError) → list_error x ≡ Letters → ⊥
-not_letters TooLong e = cc
-not_letters NoRoom e = cc
 
 pub some_codes : (u : Universe) → 0 < code_count u
 some_codes Str = omega arith

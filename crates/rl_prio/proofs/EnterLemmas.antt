@@ -3,7 +3,7 @@ use Rattle.std.proofs.Common.{◌≡◌, ℕ, ◌+◌, ◌-◌, ◌<◌, ◌≤�
 use Rattle.std.proofs.lemmas.Bool.{cases_lt}
 use Rattle.std.proofs.lemmas.List.{append-nil, length-map, map-append, ext_get_or, get_or-append_right, get_or_append_left, get_or-map}
 use Rattle.rl_syntax.specs.declared.anchors.Guard.{Guard}
-use Rattle.rl_syntax.specs.Tree.{Tree, empty, one, guard, both, either, many, places}
+use Rattle.rl_syntax.specs.Tree.{Tree, empty, guard, both, either, many, places}
 use Rattle.rl_syntax.specs.Run.{one_more}
 use Rattle.rl_syntax.specs.declared.limits.TheConstants.{MOST_MOVES}
 use Rattle.rl_prio.specs.Items.{Item, test_at, pass, guarded, all_guarded, replaced, first}
@@ -307,9 +307,6 @@ wide-many_body e greedy b over = omega (arith, width-many e greedy b)
 
 pub entered-empty : (old : List (List Attempt)) (list : List Attempt) → list ≡ End no_guards ∷ [] → AreEntered empty old old list
 entered-empty old list is = record { entering = is; lists = sym (append-nil old); short = omega arith }
-
-pub entered-one : (s : ℕ → Bool) (old new : List (List Attempt)) (list : List Attempt) → list ≡ Test no_guards (length old) ∷ [] → new ≡ old ++ (End no_guards ∷ []) ∷ [] → AreEntered (one s) old new list
-entered-one s old new list is more = record { entering = is; lists = more; short = omega arith }
 
 pub entered-guard : (g : Guard) (old : List (List Attempt)) (list : List Attempt) → list ≡ End (only g) ∷ [] → AreEntered (guard g) old old list
 entered-guard g old list is = record {

@@ -9,7 +9,7 @@ use Rattle.rl_syntax.specs.declared.re.Ending.{Ending}
 use Rattle.rl_syntax.specs.Tree.{Tree, empty, one, guard, both, either, many, size, places}
 use Rattle.rl_syntax.specs.Run.{one_more}
 use Rattle.rl_prio.specs.Items.{Item, test_at, pass, all_guarded, replaced, first, after, all_hold, longest_of, longest}
-use Rattle.rl_prio.specs.States.{place_states, test_target, pass_target, moves_on, items_of}
+use Rattle.rl_prio.specs.States.{place_states, test_target, end_target, moves_on, items_of}
 
 pub pow_mono : (i j : ℕ) → i ≤ j → 2 ^ i ≤ 2 ^ j
 pow_mono i j le = let two : 0 < 2 = omega arith in pow-le-pow_right two le
@@ -112,4 +112,4 @@ length-moves_on t ending n before next [] = omega arith
 length-moves_on t ending n before next (test_at gs p ∷ l) =
     omega (arith, length-if (all_hold gs before next) (test_target t n p next) (moves_on t ending n before next l), length-moves_on t ending n before next l)
 length-moves_on t ending n before next (pass gs ∷ l) =
-    omega (arith, length-if (all_hold gs before next) (pass_target t ending n next) (moves_on t ending n before next l), length-moves_on t ending n before next l)
+    omega (arith, length-if (all_hold gs before next) (end_target t ending n next) (moves_on t ending n before next l), length-moves_on t ending n before next l)

@@ -18,9 +18,6 @@ Finer sets others = (c d : ℕ) → alike sets c d ≡ true → alike others c d
 pub Finer-itself : (sets : List (ℕ → Bool)) → Finer sets sets
 Finer-itself sets c d h = h
 
-pub Finer-onward : (sets others last : List (ℕ → Bool)) → Finer sets others → Finer others last → Finer sets last
-Finer-onward sets others last f g c d h = g c d (f c d h)
-
 pub Finer-left : (sets xs ys : List (ℕ → Bool)) → Finer sets (xs ++ ys) → Finer sets xs
 Finer-left sets xs ys f c d h = (and_parts (alike xs c d) (alike ys c d) (sym (alike-append xs ys c d) ∙ f c d h)).0
 

@@ -12,7 +12,7 @@ use Rattle.rl_syntax.specs.declared.limits.TheConstants.{MOST_NODES}
 use Rattle.rl_prio.specs.internal.GuardSets.{met, shown, holding}
 use Rattle.rl_prio.specs.internal.Attempts.{guards_of, is_unguarded}
 use Rattle.rl_prio.specs.internal.Rows.{Rows}
-use Rattle.rl_prio.specs.internal.Plans.{plan_letters, plan_kinds, plan_places, plan_states, holds_at, test_goes, may_end, end_goes, target_of, move_of, moves_of, attempts_at, before_at, row_of, row_at, each_letter, rows_of_state, rows_before, IsPlaced, IsSound, AreRows}
+use Rattle.rl_prio.specs.internal.Plans.{plan_letters, plan_kinds, plan_place_states, plan_states, holds_at, test_goes, may_end, end_goes, target_of, move_of, moves_of, attempts_at, before_at, row_of, row_at, each_letter, rows_of_state, rows_before, IsPlaced, IsSound, AreRows}
 use Rattle.rl_prio.specs.declared.build.guards.Guards.{Guards}
 use Rattle.rl_prio.specs.declared.build.guards.Shown.{Shown}
 use Rattle.rl_prio.specs.declared.build.attempts.Attempt.{Attempt}
@@ -23,19 +23,19 @@ pub attempts_at-start : (p : Plan) (q : ℕ) → q ≡ 0 → p.first ≡ attempt
 unfolding attempts_at
 attempts_at-start p q is = ap (attempts_at p) (sym is)
 
-pub attempts_at-place : (p : Plan) (q : ℕ) → 0 < q → q - 1 < plan_places p → get_or p.after.items ((q - 1) / plan_kinds p) [] ≡ attempts_at p q
+pub attempts_at-place : (p : Plan) (q : ℕ) → 0 < q → q - 1 < plan_place_states p → get_or p.after.items ((q - 1) / plan_kinds p) [] ≡ attempts_at p q
 unfolding attempts_at
 attempts_at-place p zero some lt = absurd (omega arith)
 attempts_at-place p (suc r) some lt =
     let back : suc r - 1 ≡ r = omega arith in
     ap (λ x. get_or p.after.items (x / plan_kinds p) []) back
-    ∙ sym (cond-true (nat_lt r (plan_places p)) (get_or p.after.items (r / plan_kinds p) []) [] (lt-ltb r (plan_places p) (omega arith)))
+    ∙ sym (cond-true (nat_lt r (plan_place_states p)) (get_or p.after.items (r / plan_kinds p) []) [] (lt-ltb r (plan_place_states p) (omega arith)))
 
-pub attempts_at-none : (p : Plan) (q : ℕ) → 0 < q → plan_places p ≤ q - 1 → [] ≡ attempts_at p q
+pub attempts_at-none : (p : Plan) (q : ℕ) → 0 < q → plan_place_states p ≤ q - 1 → [] ≡ attempts_at p q
 unfolding attempts_at
 attempts_at-none p zero some le = absurd (omega arith)
 attempts_at-none p (suc r) some le =
-    sym (cond-false (nat_lt r (plan_places p)) (get_or p.after.items (r / plan_kinds p) []) [] (le-ltb r (plan_places p) (omega arith)))
+    sym (cond-false (nat_lt r (plan_place_states p)) (get_or p.after.items (r / plan_kinds p) []) [] (le-ltb r (plan_place_states p) (omega arith)))
 
 pub attempts_at-placed : (p : Plan) (q : ℕ) (l : List Attempt) → IsSound p → l ≡ attempts_at p q → All (IsPlaced (length p.after.items)) l
 attempts_at-placed p q l sound is =
@@ -56,23 +56,23 @@ before_at-place p (suc r) some =
 
 pub test_goes-hit : (p : Plan) (place letter : ℕ) → holds_at p place letter ≡ true → suc (place * plan_kinds p + get_or p.kinds_of.items letter 0) ≡ test_goes p place letter
 unfolding test_goes
-test_goes-hit p place letter hit = sym (cond-true (holds_at p place letter) (suc (place * plan_kinds p + get_or p.kinds_of.items letter 0)) (plan_places p + 2) hit)
+test_goes-hit p place letter hit = sym (cond-true (holds_at p place letter) (suc (place * plan_kinds p + get_or p.kinds_of.items letter 0)) (plan_place_states p + 2) hit)
 
-pub test_goes-miss : (p : Plan) (place letter : ℕ) → holds_at p place letter ≡ false → plan_places p + 2 ≡ test_goes p place letter
+pub test_goes-miss : (p : Plan) (place letter : ℕ) → holds_at p place letter ≡ false → plan_place_states p + 2 ≡ test_goes p place letter
 unfolding test_goes
-test_goes-miss p place letter miss = sym (cond-false (holds_at p place letter) (suc (place * plan_kinds p + get_or p.kinds_of.items letter 0)) (plan_places p + 2) miss)
+test_goes-miss p place letter miss = sym (cond-false (holds_at p place letter) (suc (place * plan_kinds p + get_or p.kinds_of.items letter 0)) (plan_place_states p + 2) miss)
 
 pub holds_at-in : (p : Plan) (place letter : ℕ) → holds_at p place letter ≡ true → letter < plan_letters p
 unfolding holds_at
 holds_at-in p place letter hit = ltb-true letter (plan_letters p) (and_parts (nat_lt letter (plan_letters p)) (get_or (get_or p.members.items place []) letter false) hit).0
 
-pub end_goes-hit : (p : Plan) (letter : ℕ) → may_end p.ending letter (plan_letters p) ≡ true → plan_places p + 1 ≡ end_goes p letter
+pub end_goes-hit : (p : Plan) (letter : ℕ) → may_end p.ending letter (plan_letters p) ≡ true → plan_place_states p + 1 ≡ end_goes p letter
 unfolding end_goes
-end_goes-hit p letter hit = sym (cond-true (may_end p.ending letter (plan_letters p)) (plan_places p + 1) (plan_places p + 2) hit)
+end_goes-hit p letter hit = sym (cond-true (may_end p.ending letter (plan_letters p)) (plan_place_states p + 1) (plan_place_states p + 2) hit)
 
-pub end_goes-miss : (p : Plan) (letter : ℕ) → may_end p.ending letter (plan_letters p) ≡ false → plan_places p + 2 ≡ end_goes p letter
+pub end_goes-miss : (p : Plan) (letter : ℕ) → may_end p.ending letter (plan_letters p) ≡ false → plan_place_states p + 2 ≡ end_goes p letter
 unfolding end_goes
-end_goes-miss p letter miss = sym (cond-false (may_end p.ending letter (plan_letters p)) (plan_places p + 1) (plan_places p + 2) miss)
+end_goes-miss p letter miss = sym (cond-false (may_end p.ending letter (plan_letters p)) (plan_place_states p + 1) (plan_place_states p + 2) miss)
 
 -- The state of a place and a kind is one of the places'
 pub place_state : (places kinds place kind : ℕ) → place < places → kind < kinds → place * kinds + kind < places * kinds
@@ -80,7 +80,7 @@ place_state places kinds place kind p_in k_in = omega (arith, mul-add-lt place k
 
 -- ---- what is read of a plan
 
-pub attempts_at-read : (p : Plan) (q kinds places : ℕ) (l d : List Attempt) → IsSound p → (q ≡ 0 → ⊥) → places ≡ plan_places p → q - 1 < places → kinds ≡ plan_kinds p
+pub attempts_at-read : (p : Plan) (q kinds places : ℕ) (l d : List Attempt) → IsSound p → (q ≡ 0 → ⊥) → places ≡ plan_place_states p → q - 1 < places → kinds ≡ plan_kinds p
     → l ≡ get_or p.after.items ((q - 1) / kinds) d → l ≡ attempts_at p q
 attempts_at-read p q kinds places l d sound some same lt is read =
     let below : q - 1 < length p.after.items * plan_kinds p = omega arith in

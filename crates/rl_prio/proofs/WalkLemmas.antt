@@ -16,7 +16,7 @@ use Rattle.rl_syntax.specs.Run.{Step, test, end}
 use Rattle.rl_syntax.specs.Cost.{tests, is_hit, all_tests, up_to_hit, has_hit, cost, matched}
 use Rattle.rl_prio.specs.Items.{Item, test_at, pass, first, after, set_of, all_hold}
 use Rattle.rl_prio.specs.Letters.{all_sets, kinds, kind_of}
-use Rattle.rl_prio.specs.States.{place_states, state_of, accepting, dead, state_count, test_target, ends_here, pass_target, moves_on, items_of, kind_before, moves_over}
+use Rattle.rl_prio.specs.States.{place_states, state_of, accepting, dead, state_count, test_target, ends_here, end_target, moves_on, items_of, kind_before, moves_over}
 use Rattle.rl_prio.specs.Automaton.{Automaton, letters_count, accepting_state, moves_at}
 use Rattle.rl_prio.specs.Walk.{stepped, walk, word_at, walk_cost, walk_matched}
 use Rattle.rl_prio.specs.StandsFor.{StandsOver, StandsFor}
@@ -106,7 +106,7 @@ module _ (t : Tree) (ending : Ending) (sets : List (ℕ → Bool)) (n : ℕ) (fi
       both_sides true q s h = h
       both_sides false q s h = miss
 
-  one_pass : (o : Option ℕ) → ends_here ending o ≡ hit i → stepped (accepting t n) k (pass_target t ending n o ∷ []) ≡ tests hit (end i ∷ [])
+  one_pass : (o : Option ℕ) → ends_here ending o ≡ hit i → stepped (accepting t n) k (end_target t ending n o ∷ []) ≡ tests hit (end i ∷ [])
   one_pass o same = both_sides (ends_here ending o) ∙ ap (λ b. b ∷ []) same
     where
       both_sides : (b : Bool) → stepped (accepting t n) k ((if b then accepting t n else dead t n) ∷ []) ≡ b ∷ []
@@ -133,9 +133,9 @@ module _ (t : Tree) (ending : Ending) (sets : List (ℕ → Bool)) (n : ℕ) (fi
       let b = all_hold gs before o in
       let v = all_hold gs (code_before w i) (slice_get w i) in
       let step : List Step = end i ∷ [] in
-      stepped-append (accepting t n) k (if b then pass_target t ending n o ∷ [] else []) (moves_on t ending n before o l)
+      stepped-append (accepting t n) k (if b then end_target t ending n o ∷ [] else []) (moves_on t ending n before o l)
       ∙ ap₂ (λ x y. x ++ y)
-      (under (accepting t n) k hit b (pass_target t ending n o) step (one_pass o same)
+      (under (accepting t n) k hit b (end_target t ending n o) step (one_pass o same)
       ∙ ap (λ x. tests hit (if x then step else []))
       (all_hold-like (guard_sets t) gs before (code_before w i) o (slice_get w i) known.0 was
       (Like-finer sets (guard_sets t) o (slice_get w i) (Finer-right sets (sets_in t) (guard_sets t) finer) like)))
@@ -244,11 +244,6 @@ module _ (a : Automaton) (t : Tree) (ending : Ending) (sets : List (ℕ → Bool
 
   pub walk-matched_over : Finer sets (all_sets t) → (w : List ℕ) → All (λ c. c < a.table.codes) w → walk_matched a (word_at a w) ≡ matched t ending w
   walk-matched_over finer w codes = ap has_hit (walk-run_over finer w codes)
-
--- The same over the tree's own sets.
-pub walk-run : (a : Automaton) (t : Tree) (ending : Ending) (w : List ℕ) → StandsFor a t ending → All (λ c. c < a.table.codes) w
-    → walk a 0 (word_at a w) ≡ all_tests t ending w
-walk-run a t ending w stands codes = walk-run_over a t ending (all_sets t) stands (Finer-itself (all_sets t)) w codes
 
 pub walk_cost-cost : (a : Automaton) (t : Tree) (ending : Ending) (w : List ℕ) → StandsFor a t ending → All (λ c. c < a.table.codes) w
     → walk_cost a (word_at a w) ≡ cost t ending w

@@ -7,7 +7,7 @@ use Rattle.rl_ranges.specs.Letters.{classes}
 use Rattle.rl_syntax.specs.declared.re.Ending.{Ending}
 use Rattle.rl_syntax.specs.Tree.{Tree, size}
 use Rattle.rl_prio.specs.Items.{Item, test_at, pass, all_hold}
-use Rattle.rl_prio.specs.States.{accepting, dead, pass_target, ends_here, moves_on, items_of, kind_before}
+use Rattle.rl_prio.specs.States.{accepting, dead, end_target, ends_here, moves_on, items_of, kind_before}
 use Rattle.rl_prio.specs.Automaton.{Automaton, letters_count, accepting_state, dead_state, moves_at}
 use Rattle.rl_prio.specs.StandsFor.{StandsOver}
 use Rattle.rl_prio.proofs.AutomatonLemmas.{moves_at-outside}
@@ -25,9 +25,9 @@ end_targets t ending n before (test_at gs p ∷ l) =
     (end_targets t ending n before l)
 end_targets t ending n before (pass gs ∷ l) =
     let P : ℕ → Type 0 = λ q. (q ≡ accepting t n) ⊎ (q ≡ dead t n) in
-    All-append P (if all_hold gs before None then pass_target t ending n None ∷ [] else []) (moves_on t ending n before None l)
-    (cond_both (all_hold gs before None) (pass_target t ending n None ∷ []) [] (All P)
-    (λ _. All-cons P (pass_target t ending n None) [] (cond_both (ends_here ending None) (accepting t n) (dead t n) P (λ _. inl refl) (λ _. inr refl)) (All-nil P))
+    All-append P (if all_hold gs before None then end_target t ending n None ∷ [] else []) (moves_on t ending n before None l)
+    (cond_both (all_hold gs before None) (end_target t ending n None ∷ []) [] (All P)
+    (λ _. All-cons P (end_target t ending n None) [] (cond_both (ends_here ending None) (accepting t n) (dead t n) P (λ _. inl refl) (λ _. inr refl)) (All-nil P))
     (λ _. All-nil P))
     (end_targets t ending n before l)
 

@@ -4,7 +4,8 @@ use Rattle.rl_ranges.specs.declared.letters.LettersError.TheVariants.{TooMany, O
 use Rattle.rl_prio.specs.declared.error.PrioError.{PrioError}
 use Rattle.rl_prio.specs.declared.error.PrioError.TheVariants.{Letters, OutOfMemory as NoMemory}
 
--- The error of the automaton for an error of its letters.
+-- The error of building an automaton if its letters can't be made for this reason: `Letters` if there are too many, and
+-- `OutOfMemory` if memory runs out.
 abbrev pub letters_error : LettersError → PrioError
 letters_error TooMany = Letters
 letters_error OutOfMemory = NoMemory

@@ -1,4 +1,6 @@
-//! Building the ordered automaton of a tree.
+//! Building the ordered automaton of a tree. Guards are anchors and word boundaries. Codes belong to the same letter if none
+//! of the sets in question distinguishes them, and to the same kind if none of the sets that the guards use does. An item is
+//! what a matcher tries next: the test of one of the tree's sets, or the end of the tree.
 
 ghost use Rattle.std.specs.Prelude.{◌≡◌, ℕ, ◌<◌, ◌≤◌, ◌++◌, [], true, All, IfOk, IfErr, OnOk, length, map};
 ghost use Rattle.rl_ranges.specs.Codes.{has, IsInside};
@@ -56,10 +58,11 @@ impl From<ListError> for PrioError {
     }
 }
 
-/// Adds the sets that distinguish the codes of a tree: the tree's own sets, and the sets that its guards name.
+/// Appends the sets that distinguish the codes of a tree to `sets`: the tree's own sets from left to right, and then the sets
+/// that its guards use.
 ///
 /// # Errors
-/// [`OutOfMemory`] if there is not enough memory for them.
+/// [`OutOfMemory`] if there is not enough memory for them. Some may have been appended then.
 pub fn add_letter_sets(alloc: Global, tree: &Re, sets: &mut Vec<CodeSet>) -> Result<(), OutOfMemory>
     ensures sets { OnOk result
         (map has sets.new.items ≡ map has sets.old.items ++ all_sets (tree_of tree.now)) }
@@ -71,7 +74,7 @@ pub fn add_letter_sets(alloc: Global, tree: &Re, sets: &mut Vec<CodeSet>) -> Res
     Ok(())
 }
 
-/// Computes the kinds of a tree, that is, the letters of the sets that its guards name. There are at most four.
+/// Returns the kinds of a tree, that is, the letters of the sets that its guards use. There are at most four.
 ///
 /// # Errors
 /// [`OutOfMemory`] if there is not enough memory for them.
@@ -93,12 +96,15 @@ impl Prio {
     ghost use Rattle.rl_prio.specs.StandsFor.{StandsFor, StandsOver};
 
     /// Builds the automaton of a tree and an ending. Its letters are the classes of codes of the universe that the tree's
-    /// sets and the sets named by its guards distinguish.
+    /// sets, and the sets that its guards use, distinguish. The tree must have at most [`MOST_NODES`](rl_syntax::MOST_NODES)
+    /// nodes, and its sets and those that its guards use must hold only codes of the universe.
     ///
     /// # Errors
-    /// [`PrioError::Letters`] if there are more than [`MOST_LETTERS`] letters; [`PrioError::Moves`] if there are no more
-    /// letters than that, but a list of items has more than [`MOST_MOVES`] items; [`PrioError::OutOfMemory`] if there is not
-    /// enough memory for the automaton.
+    /// [`PrioError::Letters`] only if there are more than [`MOST_LETTERS`](rl_ranges::MOST_LETTERS) letters.
+    /// [`PrioError::Moves`] only if there are no more letters than that, but a list of items has more than
+    /// [`MOST_MOVES`](rl_syntax::MOST_MOVES) items: the list of what a matcher tries on entering the tree or after one of its
+    /// sets. [`PrioError::OutOfMemory`] if there is not enough memory for the automaton. If a limit is exceeded, there is
+    /// always an error.
     pub fn build(
         alloc: Global,
         tree: &Re,
@@ -122,13 +128,16 @@ impl Prio {
     }
 
     /// Builds the automaton of a tree and an ending over the letters that the given sets distinguish in the universe. Codes
-    /// that these sets don't distinguish must not be distinguished by the sets of the tree or the sets that its guards name
-    /// either.
+    /// that these sets don't distinguish must not be distinguished by the sets of the tree, or by those that its guards use,
+    /// either. The tree must have at most [`MOST_NODES`](rl_syntax::MOST_NODES) nodes, and all of these sets must hold only
+    /// codes of the universe.
     ///
     /// # Errors
-    /// [`PrioError::Letters`] if there are more than [`MOST_LETTERS`] letters; [`PrioError::Moves`] if there are no more
-    /// letters than that, but a list of items has more than [`MOST_MOVES`] items; [`PrioError::OutOfMemory`] if there is not
-    /// enough memory for the automaton.
+    /// [`PrioError::Letters`] only if there are more than [`MOST_LETTERS`](rl_ranges::MOST_LETTERS) letters.
+    /// [`PrioError::Moves`] only if there are no more letters than that, but a list of items has more than
+    /// [`MOST_MOVES`](rl_syntax::MOST_MOVES) items: the list of what a matcher tries on entering the tree or after one of its
+    /// sets. [`PrioError::OutOfMemory`] if there is not enough memory for the automaton. If a limit is exceeded, there is
+    /// always an error.
     pub fn build_over(
         alloc: Global,
         tree: &Re,

@@ -1,4 +1,10 @@
-//! Laws of ordered automata, for all trees and texts. The functions do nothing: what they ensure is what is proved.
+//! Laws of ordered automata, for all trees and texts. The functions do nothing; their `ensures` clauses are the laws. An
+//! automaton stands for a tree and an ending if its letters, states and moves are the ones that the tree and the ending
+//! define. The run of a tree on a text is the list of the steps that a backtracking matcher takes if it never stops early, and
+//! the walk of an automaton is the list of its tries of moves. A step is a hit if a match ends with it. The cost is one more
+//! than the number of steps up to and including the first hit, or than the number of all steps if there is no hit. A place of
+//! a tree is one of its sets, and its guards are its anchors and word boundaries. Letters are of the same kind if the guards
+//! don't distinguish between them.
 
 ghost use Rattle.std.specs.Prelude.{◌≡◌, ◌↔◌, ◌⊎◌, ℕ, ◌+◌, ◌*◌, ◌^◌, ◌<◌, ◌≤◌, Bool, true, List, [], length, All, IsTrue};
 ghost use Rattle.rl_ranges.specs.Letters.{alike};
@@ -14,9 +20,9 @@ ghost use Rattle.rl_prio.specs.Automaton.{Automaton, letters_count, accepting_st
 ghost use Rattle.rl_prio.specs.Walk.{walk, word_at, walk_cost, walk_matched};
 ghost use Rattle.rl_prio.specs.StandsFor.{StandsOver, StandsFor};
 
-/// The walk of an automaton that stands for a tree is the run of the tree, for every text of the automaton's codes: both have
-/// the same steps, with the same hits and misses. So they have the same cost, and match the same texts. The automaton's
-/// letters may come from other sets than the tree's own, as long as codes that those sets don't distinguish aren't
+/// States that the walk of an automaton that stands for a tree is the run of the tree, for every text of the automaton's
+/// codes: both have the same steps, with the same hits and misses. So they have the same cost, and match the same texts. The
+/// automaton's letters may come from other sets than the tree's own if codes that those sets don't distinguish aren't
 /// distinguished by the tree's sets either.
 pub fn walk_is_run()
     ensures costs { (a : Automaton) (t : Tree) (ending : Ending) (w : List ℕ) → StandsFor a t ending → All (λ c. c < a.table.codes) w
@@ -34,15 +40,15 @@ pub fn walk_is_run()
         → (w : List ℕ) → All (λ c. c < a.table.codes) w → walk_matched a (word_at a w) ≡ matched t ending w }
 {}
 
-/// A text is matched to its end if and only if the tree spans all of it, and matched anywhere if and only if the tree spans a
-/// prefix of it.
+/// States that a text is matched to its end if and only if the tree spans all of it, and matched anywhere if and only if the
+/// tree spans a prefix of it.
 pub fn matches_are_spans()
     ensures to_end { (t : Tree) (w : List ℕ) → IsTrue (matched t AtEnd w) ↔ Spans t w 0 (length w) }
     ensures to_some { (t : Tree) (w : List ℕ) → IsTrue (matched t Anywhere w) ↔ ((j : ℕ) × Spans t w 0 j) }
 {}
 
-/// After the end letter, nothing is left to read: a move on it leads to the accepting state or to the dead state, and neither
-/// of these has any moves.
+/// States, for an automaton that stands for a tree, that each move on the end letter leads to the accepting state or to the
+/// dead state, and that neither of these states has a move on any letter.
 pub fn end_letter_ends()
     ensures ends { (a : Automaton) (t : Tree) (ending : Ending) (sets : List (ℕ → Bool)) → StandsOver a t ending sets
         → (q : ℕ) → All (λ target. (target ≡ accepting_state a) ⊎ (target ≡ dead_state a)) (moves_at a q (letters_count a)) }
@@ -52,9 +58,9 @@ pub fn end_letter_ends()
         → (letter : ℕ) → moves_at a (dead_state a) letter ≡ [] }
 {}
 
-/// The length of item lists is bounded in terms of the size `s` of the tree: the list of entering a tree has at most `2^s`
-/// items, and the list after a place of the tree has at most `2^(s*s)`. The same bound of `2^(s*s)` holds for the lists of
-/// moves of an automaton that stands for the tree.
+/// States bounds on the length of item lists, by the size `s` of the tree: the list of entering a tree has at most `2^s`
+/// items, and the list after a place of the tree at most `2^(s*s)`. The list of moves of a state on a letter, in an automaton
+/// that stands for the tree, has at most `2^(s*s)` items, too.
 pub fn item_lists_are_short()
     ensures entered { (t : Tree) (b : ℕ) → length (first t b) ≤ 2 ^ size t }
     ensures later { (t : Tree) (b p : ℕ) → length (after t b p) ≤ 2 ^ (size t * size t) }
@@ -63,8 +69,8 @@ pub fn item_lists_are_short()
         → (q letter : ℕ) → length (moves_at a q letter) ≤ 2 ^ (size t * size t) }
 {}
 
-/// There are at most four kinds of letters, since guards name at most three sets and one of these is a subset of another. If
-/// the tree has no guards, there is one kind. So a tree of size `s` has at most `4*s + 3` states.
+/// States that there are at most four kinds of letters, and only one if the tree has no guards and there is at least one code.
+/// So a tree of size `s` has at most `4*s + 3` states. Guards use at most three sets, one of which is a subset of another.
 pub fn states_are_few()
     ensures kinds { (t : Tree) (n : ℕ) → length (kinds t n) ≤ 4 }
     ensures one_kind { (t : Tree) (n : ℕ) → guards_in t ≡ [] → 0 < n → length (kinds t n) ≡ 1 }

@@ -7,10 +7,12 @@ use rl_lists::OutOfMemory;
 use std::alloc::Global;
 use std::marker::Model;
 
-/// Rows of numbers, stored one after another. The last row is still open; all others are closed.
+/// Rows of numbers, stored one after another. The last row is still open. All others are closed.
 #[derive(Drop)]
 pub(crate) struct RowTable {
+    /// The numbers of all rows, one row after another.
     targets: Vec<u32>,
+    /// For each closed row, the index in `targets` at which it ends.
     ends: Vec<usize>,
 }
 
@@ -63,7 +65,7 @@ impl RowTable {
         Ok(())
     }
 
-    /// Returns the closed row with the index `i`.
+    /// Returns the closed row with the index `i`, counted from 0. There must be one.
     pub(crate) fn row(&self, i: usize) -> &[u32]
         requires { i < length self.now.rows }
         ensures { result.now ≡ slice_index_or self.now.rows i [] }

@@ -8,7 +8,7 @@ use Rattle.std.proofs.lemmas.Bool.{false≢true}
 use Rattle.std.proofs.lemmas.Bool.Decides.{nat_tests}
 use Rattle.std.proofs.lemmas.List.{drop_more, drop-drop, get_or-drop}
 use Rattle.rl_pylex.specs.Bytes.{has_at, in_name}
-use Rattle.rl_pylex.specs.internal.Absence.{is_ordinary, word_at, lacks_word, is_inside, IsFree, IsPassed, IsFreeRun}
+use Rattle.rl_pylex.specs.internal.Absence.{is_ordinary, word_at, lacks_word, is_inside, IsFree, IsSkipped, IsFreeRun}
 use Rattle.rl_pylex.specs.internal.Blocks.{stops_at}
 use Rattle.rl_pylex.proofs.Fronts.{has_at-within, has_at-read}
 use Rattle.rl_pylex.proofs.Cuts.{next_rest}
@@ -110,7 +110,7 @@ inside_after : (text xs : List ℕ) (x at : ℕ) → drop at text ≡ x ∷ xs �
 inside_after text xs x at e = ap (λ n. is_inside n text) (add-one at) ∙ has_at-of_drop in_name at x text xs e
 
 passed-one : (name text xs : List ℕ) (x at : ℕ) → drop at text ≡ x ∷ xs → is_ordinary x ≡ true → (not (is_inside at text) && word_at name (x ∷ xs)) ≡ false
-    → IsPassed name text at → IsPassed name text (at + 1)
+    → IsSkipped name text at → IsSkipped name text (at + 1)
 passed-one name text xs x at e o w p =
     let later : drop (at + 1) text ≡ xs = next_rest text xs x at e in
     let one : prefix_len is_ordinary (x ∷ xs) ≡ 1 + prefix_len is_ordinary xs = rw o refl in
@@ -123,35 +123,35 @@ passed-one name text xs x at e o w p =
           ∙ ap (λ (b : Bool). lacks_word name b (drop (at + 1) text)) (sym (inside_after text xs x at e));
     }
 
-free-on : (name text : List ℕ) (at n : ℕ) → n ≤ length (drop at text) → IsFree name (drop at text) n → IsPassed name text at → IsPassed name text (at + n)
-free-on name text at zero within free p = subst (λ (k : ℕ). IsPassed name text k) (sym (add-zero at)) p
+free-on : (name text : List ℕ) (at n : ℕ) → n ≤ length (drop at text) → IsFree name (drop at text) n → IsSkipped name text at → IsSkipped name text (at + n)
+free-on name text at zero within free p = subst (λ (k : ℕ). IsSkipped name text k) (sym (add-zero at)) p
 free-on name text at (suc n) within free p =
     let rest = drop at text in
     let here : drop (at + n) text ≡ get_or rest n 0 ∷ drop (n + 1) rest = sym (drop-drop n at text) ∙ drop_more rest n 0 within in
     let word : word_at name (get_or rest n 0 ∷ drop (n + 1) rest) ≡ false =
     ap (word_at name) (sym (drop_more rest n 0 within)) ∙ (free n (omega arith)).1 in
     let step : at + n + 1 ≡ at + suc n = omega arith in
-    subst (λ (k : ℕ). IsPassed name text k) step
+    subst (λ (k : ℕ). IsSkipped name text k) step
     (passed-one name text (drop (n + 1) rest) (get_or rest n 0) (at + n) here (free n (omega arith)).0 (and-right (not (is_inside (at + n) text)) (word_at name (get_or rest n 0 ∷ drop (n + 1) rest)) word)
     (free-on name text at n (omega (arith, within)) (λ k below. free k (omega (arith, below))) p))
 
-pub passed-start : (name text : List ℕ) (n : ℕ) → n ≤ length text → IsFree name text n → IsPassed name text n
+pub passed-start : (name text : List ℕ) (n : ℕ) → n ≤ length text → IsFree name text n → IsSkipped name text n
 passed-start name text n within free =
-    let none : IsPassed name text 0 = record { run = sym (zero-add (prefix_len is_ordinary text)); free = refl } in
-    subst (λ (k : ℕ). IsPassed name text k) (zero-add n) (free-on name text 0 n within free none)
+    let none : IsSkipped name text 0 = record { run = sym (zero-add (prefix_len is_ordinary text)); free = refl } in
+    subst (λ (k : ℕ). IsSkipped name text k) (zero-add n) (free-on name text 0 n within free none)
   where
     zero-add : (k : ℕ) → 0 + k ≡ k
     zero-add k = omega arith
 
-pub passed-on : (name text : List ℕ) (at n : ℕ) → IsPassed name text at → has_at is_ordinary at text ≡ true → false ≡ (not (is_inside at text) && word_at name (drop at text))
-    → n ≤ length (drop (at + 1) text) → IsFree name (drop (at + 1) text) n → IsPassed name text (at + (1 + n))
+pub passed-on : (name text : List ℕ) (at n : ℕ) → IsSkipped name text at → has_at is_ordinary at text ≡ true → false ≡ (not (is_inside at text) && word_at name (drop at text))
+    → n ≤ length (drop (at + 1) text) → IsFree name (drop (at + 1) text) n → IsSkipped name text (at + (1 + n))
 passed-on name text at n p o w within free =
     let below : at < length text = has_at-within is_ordinary at text o in
     let here : drop at text ≡ get_or text at 0 ∷ drop (at + 1) text = drop_more text at 0 below in
-    let one : IsPassed name text (at + 1) =
+    let one : IsSkipped name text (at + 1) =
     passed-one name text (drop (at + 1) text) (get_or text at 0) at here (has_at-read is_ordinary at text o)
     (ap (λ ys. not (is_inside at text) && word_at name ys) (sym here) ∙ sym w) p in
-    subst (λ (k : ℕ). IsPassed name text k) (add_assoc at 1 n) (free-on name text (at + 1) n within free one)
+    subst (λ (k : ℕ). IsSkipped name text k) (add_assoc at 1 n) (free-on name text (at + 1) n within free one)
 
 -- A run ends at a byte that isn't ordinary, or at the end of the text.
 ended : (name rest : List ℕ) (inside : Bool) → has_at is_ordinary 0 rest ≡ false → (prefix_len is_ordinary rest ≡ 0) × (lacks_word name inside rest ≡ true)
@@ -163,7 +163,7 @@ has_at-drop p zero xs = refl
 has_at-drop p (suc n) [] = refl
 has_at-drop p (suc n) (x ∷ xs) = has_at-drop p n xs
 
-pub passed-end : (name text : List ℕ) (at : ℕ) → IsPassed name text at → has_at is_ordinary at text ≡ false → IsFreeRun name text at
+pub passed-end : (name text : List ℕ) (at : ℕ) → IsSkipped name text at → has_at is_ordinary at text ≡ false → IsFreeRun name text at
 passed-end name text at p o =
     let parts = ended name (drop at text) (is_inside at text) (has_at-drop is_ordinary at text ∙ o) in
     record {

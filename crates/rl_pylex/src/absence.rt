@@ -1,4 +1,5 @@
-//! A quick look at a source: whether it can be cut into tokens and none of them is a certain name.
+//! A quick search that may show that a source can be cut into tokens and none of them is a certain name. It works
+//! on the bytes, and makes no token list.
 ghost use Rattle.std.specs.Prelude.{◌≡◌, ℕ, ◌+◌, ◌<◌, ◌≤◌, length, drop, true, not, ◌&&◌, IsTrue, IfSome};
 ghost use Rattle.std.specs.Char.{is_ascii_alphabetic};
 ghost use Rattle.rl_pylex.specs.Bytes.{has_at, in_name, text_start};
@@ -130,8 +131,8 @@ fn passes_without(source: &[u8], first: usize, name: &[u8]) -> bool
     true
 }
 
-/// Whether a quick look shows that the source can be cut into tokens and none of them is a name with this text. If the result
-/// is false, nothing is claimed.
+/// Whether a quick search shows that the source can be cut into tokens and none of them is a `Name` with the text `name`. The
+/// first byte of `name` must be an ASCII letter. If the result is false, nothing is claimed.
 pub fn lacks_name(source: &[u8], name: &[u8]) -> bool
     requires { has_at is_ascii_alphabetic 0 name.now ≡ true }
     ensures { IsTrue result → LacksName source.now name.now }

@@ -1,4 +1,6 @@
-//! Blocks of 16 bytes, each examined as a whole.
+//! Blocks of 16 bytes, each examined as a whole. A byte is ordinary if it is white space, a line end, a byte of a name, an
+//! operator character, a delimiter or a bracket. A whole word has no byte that can continue a name directly before or after
+//! it.
 ghost use Rattle.std.specs.Prelude.{◌≡◌, ℕ, ◌+◌, ◌<◌, ◌≤◌, ◌==◌, false, not, length, map, slice_index, if◌then◌else◌};
 ghost use Rattle.std.specs.Int.Count.{count_trailing_zeros};
 ghost use Rattle.std.specs.List.{prefix_len, range_with_len};
@@ -53,7 +55,8 @@ fn stops(block: u8x16, behind: u8x16, after: u8x16, first: u8, second: u8) -> u6
     (pairs & ends | odd_kinds(block).simd_ne(u8x16::splat(0))).to_bitmask()
 }
 
-/// Returns the number of bytes in the block at a place before the first one that isn't ordinary or at which the name may begin.
+/// Returns the number of bytes in the block at a place before the first one that isn't ordinary or at which the name may
+/// begin.
 #[inline(always)]
 fn free_in_block(text: &[u8], at: usize, name: &[u8]) -> usize
     requires long { 2 ≤ length name.now }
@@ -67,9 +70,9 @@ fn free_in_block(text: &[u8], at: usize, name: &[u8]) -> usize
     lowest(stops(block, behind, after, name[0], name[1]))
 }
 
-/// Returns a number of bytes at the beginning of the text, each of them ordinary. At none of them does the name begin as a
-/// whole word. The number reaches up to the first byte that isn't ordinary or at which the name may begin, but is smaller if
-/// fewer bytes than a block and the name are left.
+/// Returns a number of bytes at the beginning of the text that a search for `name` can skip: each of them is ordinary, and
+/// `name` begins at none of them as a whole word. `name` must have at least two bytes. The search stops at the first byte that
+/// isn't ordinary or at which the name may begin, or earlier if fewer bytes are left than a block and the name have together.
 pub fn size_before_stop(text: &[u8], name: &[u8]) -> usize
     requires { 2 ≤ length name.now }
     ensures within { result ≤ length text.now }
@@ -97,7 +100,8 @@ fn plain_stops(block: u8x16) -> u64
     (quotes | ends | block.simd_eq(u8x16::splat(b'\\'))).to_bitmask()
 }
 
-/// Returns the number of plain bytes that the block at a place begins with.
+/// Returns the number of bytes in the block that begins at the index `at` before its first quote, backslash, CR or LF: 16 if
+/// it has none. The block must lie within the text.
 #[inline(always)]
 pub fn plain_in_block(text: &[u8], at: usize) -> usize
     requires { at + 16 ≤ length text.now }
@@ -114,7 +118,8 @@ fn line_stops(block: u8x16) -> u64
     (block.simd_eq(u8x16::splat(b'\n')) | block.simd_eq(u8x16::splat(b'\r'))).to_bitmask()
 }
 
-/// Returns the number of bytes in the block at a place before the first line end.
+/// Returns the number of bytes in the block that begins at the index `at` before its first CR or LF: 16 if it has none.
+/// The block must lie within the text.
 #[inline(always)]
 pub fn line_in_block(text: &[u8], at: usize) -> usize
     requires { at + 16 ≤ length text.now }

@@ -32,42 +32,43 @@ pub fn ends_line(byte: u8) -> bool
     matches!(byte, b'\n' | b'\r')
 }
 
-/// Whether the byte can begin a name.
+/// Whether the byte can begin a name: an ASCII letter, `_` or a byte of at least 0x80.
 pub fn starts_name(byte: u8) -> bool
     ensures { result ≡ starts_name byte }
 {
     byte.is_ascii_alphabetic() || byte == b'_' || byte > 127
 }
 
-/// Whether the byte can continue a name.
+/// Whether the byte can continue a name: a byte that can begin one, or a digit.
 pub fn in_name(byte: u8) -> bool
     ensures { result ≡ in_name byte }
 {
     NAME_BYTES[byte as usize]
 }
 
-/// Whether the byte can continue a number.
+/// Whether the byte can continue a number: an ASCII letter, a digit, `_` or `.`.
 pub fn in_number(byte: u8) -> bool
     ensures { result ≡ in_number byte }
 {
     byte.is_ascii_alphanumeric() || byte == b'_' || byte == b'.'
 }
 
-/// Whether the byte is an operator character or a bracket.
+/// Whether the byte is an operator character, a delimiter such as `.` or `,`, or a bracket. Each is a token of the kind `Op`.
 pub fn is_operator(byte: u8) -> bool
     ensures { result ≡ is_operator byte }
 {
     is_plain_operator(byte) || byte == b'.'
 }
 
-/// Whether the byte is an operator character that can't begin a number.
+/// Whether the byte is an operator character, a delimiter or a bracket, but not a `.`, which can also begin a number.
 pub fn is_plain_operator(byte: u8) -> bool
     ensures { result ≡ is_plain_operator byte }
 {
     PLAIN_OPERATORS[byte as usize]
 }
 
-/// Whether the byte is an ordinary one, which can't begin a literal without a prefix, a comment, a joined line or a fault.
+/// Whether the byte is ordinary: a space, a tab, a form feed, a CR, an LF, a byte of a name, or a byte of the kind `Op`. The
+/// other bytes are quotes, `#`, backslashes, and those that no token begins with.
 pub fn is_ordinary(byte: u8) -> bool
     ensures { result ≡ is_ordinary byte }
 {
@@ -88,7 +89,7 @@ pub fn closes_bracket(byte: u8) -> bool
     CLOSING_BRACKETS[byte as usize]
 }
 
-/// Returns the text from a place to the end.
+/// Returns the bytes of the text from the index `at`, counted from 0, to the end. `at` must not be greater than the length.
 pub fn rest_from(text: &[u8], at: usize) -> &[u8]
     requires { at ≤ length text.now }
     ensures { result.now ≡ drop at text.now }
@@ -96,7 +97,8 @@ pub fn rest_from(text: &[u8], at: usize) -> &[u8]
     &text[at..]
 }
 
-/// Returns the number of bytes in the line end that the text begins with, or 0 if it doesn't begin with one.
+/// Returns the number of bytes in the line end that the text begins with: 2 for CR LF, 1 for any other CR or LF, and 0 if it
+/// doesn't begin with a line end.
 #[tactic(auto, unfolding(crate::specs::Bytes::line_end))]
 pub fn line_end(text: &[u8]) -> usize
     ensures value { result ≡ line_end text.now }
@@ -109,7 +111,8 @@ pub fn line_end(text: &[u8]) -> usize
     }
 }
 
-/// Returns the place where the text of a source begins, which is after its byte order mark if it has one.
+/// Returns the index of the byte at which the text of a source begins: 3 if the source begins with the byte order mark EF BB
+/// BF, otherwise 0.
 #[tactic(auto, unfolding(crate::specs::Bytes::text_start))]
 pub fn text_start(source: &[u8]) -> usize
     ensures value { result ≡ text_start source.now }
@@ -130,7 +133,7 @@ fn line_size_slowly(text: &[u8]) -> usize
     memchr2(b'\n', b'\r', text).unwrap_or(text.len())
 }
 
-/// Returns the number of bytes before the next line end or, if there is none, before the end of the text.
+/// Returns the number of bytes before the first CR or LF or, if there is none, before the end of the text.
 pub fn line_size(text: &[u8]) -> usize
     ensures value { result ≡ prefix_len in_line text.now }
     ensures within { result ≤ length text.now }

@@ -1,4 +1,4 @@
-//! The coding line of a source: the name of its coding, and whether relint reads the source as UTF-8.
+//! The coding line of a source: the name of its coding, and whether that is one of the six names that relint accepts.
 ghost use Rattle.std.specs.Prelude.{◌≡◌, ℕ, ◌+◌, ◌^◌, ◌<◌, ◌≤◌, length, drop, take, take_while, Option, Some, IfSome, IsTrue, ◌==◌, ◌||◌, ◌&&◌};
 ghost use Rattle.std.specs.Option.{ForSome};
 ghost use Rattle.std.specs.List.{prefix_len};
@@ -7,10 +7,12 @@ ghost use Rattle.rl_pylex.specs.Coding.{is_gap, in_coding, named_here, from_plac
 
 use crate::bytes::{blank_size, line_end, line_size, rest_from};
 
-/// The name of a coding in a text: the place where it begins and its number of bytes.
+/// Where the name of a coding is in a text.
 #[derive(Clone, Copy)]
 pub struct Named {
+    /// The index of its first byte, counted from 0.
     pub from: usize,
+    /// Its number of bytes.
     pub size: usize,
 }
 
@@ -157,6 +159,7 @@ fn coding_of(text: &[u8]) -> Option<Named>
     }
 }
 
+/// Whether the name, in upper or lower case, is one of the six accepted names of UTF-8 and ASCII.
 fn is_accepted(name: &[u8]) -> bool
     ensures { result ≡ is_accepted name.now }
 {
@@ -168,7 +171,9 @@ fn is_accepted(name: &[u8]) -> bool
         || name.eq_ignore_ascii_case(b"us-ascii")
 }
 
-/// Returns the place of the name in the coding line of the text if that coding isn't accepted.
+/// Returns the index in the text of the first byte of the coding's name, counted from 0, if the coding line of the text names
+/// its coding by none of the six accepted names (`is_accepted`). Returns `None` if that name is accepted, or if there is no
+/// coding line. Python's other names of UTF-8 and ASCII, such as `u8` and `646`, aren't accepted.
 #[tactic(auto, unfolding(crate::specs::Coding::wrong_coding))]
 pub fn wrong_coding(text: &[u8]) -> Option<usize>
     ensures value { result ≡ wrong_coding text.now }

@@ -70,8 +70,9 @@ fn read_pieces(alloc: Global, source: &[u8], first: usize) -> Result<TokenList, 
     Ok(tokens)
 }
 
-/// Checks a source as a whole. It is refused if it has more than [`MOST_BYTES`] bytes, isn't UTF-8, or has a coding line that
-/// names another coding.
+/// Checks a source as a whole. Returns `Ok` if it passes, or the first of these errors: [`LexError::FileTooLong`] if it has
+/// more than [`MOST_BYTES`] bytes, [`LexError::NotUtf8`] if it isn't UTF-8, [`LexError::Coding`] if its coding line names its
+/// coding by none of the six accepted names of UTF-8 and ASCII.
 pub fn check_source(source: &[u8]) -> Result<(), LexError>
     ensures ok { IfOk result (λ _. IsReadable source.now) }
     ensures err { IfErr result (IsFault source.now) }
@@ -92,13 +93,15 @@ pub fn check_source(source: &[u8]) -> Result<(), LexError>
 /// Returns the tokens of a source in order. They don't overlap, and the text of each is its slice of the source.
 ///
 /// # Errors
-/// The first of these that holds. Each except `FileTooLong` and `OutOfMemory` has a byte place, which counts a byte order mark.
-/// - [`LexError::FileTooLong`] if and only if the source has more than 4,194,304 bytes
-/// - [`LexError::NotUtf8`] if and only if it isn't UTF-8, with the length of its longest prefix that is UTF-8
-/// - [`LexError::Coding`] if and only if its coding line names another coding than UTF-8 or ASCII, with the place of that name
-/// - [`LexError::Unterminated`] or [`LexError::StrayCode`] if and only if the first fault by place is a literal without an end
-///   or a stray code, with the place where the literal begins or the place of the code
-/// - [`LexError::OutOfMemory`] if memory runs out
+/// The first of these that applies. A place is a byte index in the source, counted from 0; a byte order mark counts.
+/// - [`LexError::FileTooLong`] if the source has more than 4,194,304 bytes
+/// - [`LexError::NotUtf8`] if it isn't UTF-8, with the length of its longest prefix that is UTF-8
+/// - [`LexError::Coding`] if its coding line names its coding by none of the six accepted names of UTF-8 and ASCII, with the
+///   place of the name
+/// - [`LexError::Unterminated`] or [`LexError::StrayCode`] if the first fault by place is a literal without an end or a code
+///   point that begins no token, with the place where the literal begins or the place of the code point
+///
+/// Instead of any result, [`LexError::OutOfMemory`] is returned if memory runs out.
 pub fn tokens(alloc: Global, source: &[u8]) -> Result<TokenList, LexError>
     ensures ok { IfOk result (IsTokenList source.now) }
     ensures err { IfErr result (IsFault source.now) }

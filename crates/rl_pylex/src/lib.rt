@@ -1,8 +1,8 @@
 //! The tokens of Python sources, read from bytes by a table of ten rules.
 //!
 //! A source is at most [`MOST_BYTES`](rl_lists::MOST_BYTES) bytes of UTF-8, with or without a byte order mark. If it has a
-//! coding line, that line must name UTF-8 or ASCII. [`tokens`] cuts the source into pieces. At each place the first rule that
-//! fits is used:
+//! coding line, that line must name UTF-8 or ASCII by one of six accepted names. [`tokens`] cuts the source into pieces. At
+//! each place the first rule that fits is used:
 //!
 //! 1. a space, a tab or a form feed: no token
 //! 2. a backslash and a line end: no token
@@ -21,10 +21,10 @@
 //!
 //! # What is proved
 //!
-//! [`tokens`] returns exactly the token list that the table gives, or exactly the first fault with its place. By the law
-//! [`one_answer`] a source has either one list or one fault. Tokens are in order, and by [`token_texts`] the text of a literal
-//! token is a literal by itself. If [`lacks_name`] returns true, the source can be cut into tokens, and the name isn't among
-//! them.
+//! Unless memory runs out, [`tokens`] returns exactly the token list that the table gives, or exactly the first fault with its
+//! place. By the law [`one_answer`] a source never has two answers. Tokens are in order, and by [`token_texts`] the text of a
+//! literal token is a literal by itself. If [`lacks_name`] returns true, the source can be cut into tokens, and the name isn't
+//! among them.
 //!
 //! # Example
 //!

@@ -12,7 +12,8 @@ use crate::bytes::{ends_line, is_quote, rest_from};
 use crate::tables::LITERAL_STARTS;
 use memchr::memchr2;
 
-/// Whether the byte is a quote or a letter of a prefix.
+/// Whether the byte is a quote or one of the letters r, u, b and f, in upper or lower case. Every literal begins with such a
+/// byte.
 pub fn starts_literal(byte: u8) -> bool
     ensures { result ≡ starts_literal byte }
 {
@@ -47,7 +48,8 @@ fn find_prefix(text: &[u8]) -> Option<usize>
     }
 }
 
-/// Returns what [`find_prefix`] returns, and promises that a quote follows the prefix.
+/// Returns the number of bytes in the prefix with which the text begins, if a quote directly follows it: 0, 1 or 2. Returns
+/// `None` if the text doesn't begin with a prefix and a quote.
 #[tactic(auto, using(crate::proofs::Fronts::prefixes))]
 pub fn prefix_size(text: &[u8]) -> Option<usize>
     ensures value { result ≡ prefix_size text.now }
@@ -57,7 +59,8 @@ pub fn prefix_size(text: &[u8]) -> Option<usize>
     find_prefix(text)
 }
 
-/// Returns the number of quotes that open the literal whose first quote the text begins with.
+/// Returns the number of quotes that open a literal, given the text from its first quote on: 3 if the text begins with three
+/// equal quotes, otherwise 1. The text must not be empty.
 #[tactic(auto, unfolding(crate::specs::Literals::quote_count))]
 pub fn quote_count(text: &[u8]) -> usize
     requires { 0 < length text.now }
@@ -200,7 +203,8 @@ fn close_from(body: &[u8], count: usize, quote: u8) -> Option<usize>
     None
 }
 
-/// Returns the size of the literal that the text begins with, if it has an end. Its prefix has `n` bytes.
+/// Returns the number of bytes in the literal that the text begins with, from its prefix of `n` bytes to its closing quotes,
+/// or `None` if nothing closes it: the text ends or, with single quotes, the line. There must be a quote at the index `n`.
 #[tactic(auto, using(crate::proofs::Fronts::quote_at), unfolding(crate::specs::Literals::size_after))]
 pub fn size_after(text: &[u8], n: usize) -> Option<usize>
     requires within { n < length text.now }

@@ -1,4 +1,5 @@
-//! The rules of tokens, each applied to the rest of the text.
+//! The rules of tokens, each applied to the text from some place on. A piece is what a rule takes there. The bracket depth is
+//! the number of brackets that are open at the place.
 ghost use Rattle.std.specs.Prelude.{◌≡◌, ℕ, ◌+◌, ◌^◌, ◌<◌, ◌≤◌, length, drop, not, ◌&&◌, ◌||◌, Option};
 ghost use Rattle.std.specs.List.{prefix_len};
 ghost use Rattle.rl_pylex.specs.Bytes.{has_at, is_backslash, starts_name, in_name, in_number};
@@ -13,21 +14,21 @@ use crate::bytes::{
 use crate::literals::{prefix_size, size_after, starts_literal};
 use crate::tables::PLAIN_NAME_STARTS;
 
-/// What a rule does at the beginning of a text.
+/// The result of a rule at the beginning of a text.
 #[derive(Clone, Copy)]
 pub enum Fit {
     /// The rule doesn't fit.
     Passes,
     /// The rule fits and takes this number of bytes.
     Takes(usize),
-    /// The rule fits, but what it reads has no end.
+    /// The rule fits, but the literal that begins here has no end.
     Breaks,
 }
 
 /// What is read at the beginning of a text.
 #[derive(Clone, Copy)]
 pub enum Reading {
-    /// A piece of this many bytes, with the kind of its token if it has one.
+    /// A piece: the kind of its token, or `None` if it has no token, and its number of bytes.
     Piece(Option<TokenKind>, usize),
     /// A literal without an end.
     Unterminated,
@@ -51,7 +52,8 @@ fn blank(text: &[u8]) -> Fit
     }
 }
 
-/// Applies the rule of a backslash and a line end.
+/// Returns the result of the rule that takes a backslash directly followed by a line end: `Takes` with the number of bytes of
+/// both, or `Passes` if the text doesn't begin with them.
 #[tactic(auto, unfolding(crate::specs::Rules::joined_line))]
 pub fn joined_line(text: &[u8]) -> Fit
     ensures { result ≡ joined_line text.now }
@@ -236,7 +238,8 @@ fn first_fit(text: &[u8], depth: u32) -> Reading
     }
 }
 
-/// Reads what the text begins with, at a bracket depth.
+/// Returns what is read at the beginning of the text at the bracket depth `depth`, by the first rule that fits: a piece, a
+/// literal without an end, or a stray code if no rule fits. The empty text gives a stray code.
 #[tactic(auto, using(crate::proofs::Sizes::bounded))]
 pub fn read_front(text: &[u8], depth: u32) -> Reading
     ensures value { result ≡ reading depth text.now }
@@ -245,7 +248,8 @@ pub fn read_front(text: &[u8], depth: u32) -> Reading
     first_fit(text, depth)
 }
 
-/// Returns the bracket depth after the piece that the text begins with.
+/// Returns the bracket depth after the piece that the text begins with, if `depth` is the depth before it: one more for an
+/// opening bracket, one less for a closing one, but at least 0, and otherwise the same. `depth` must be less than 2^32 - 1.
 #[tactic(auto, unfolding(crate::specs::Rules::depth_after))]
 pub fn depth_after(text: &[u8], depth: u32) -> u32
     requires { depth + 1 < 2 ^ 32 }

@@ -1,6 +1,7 @@
-//! Classes of bytes. Each is a table that says for each byte whether it belongs to the class.
+//! Classes of bytes. Each is a table of 256 entries: the entry at the index of a byte is true if the byte belongs to the
+//! class.
 
-/// Bytes that can continue a name.
+/// Bytes that can continue a name: ASCII letters, digits, `_`, and bytes of at least 0x80.
 pub const NAME_BYTES: [bool; 256] = [
     false, false, false, false, false, false, false, false, false, false, false, false, false,
     false, false, false, false, false, false, false, false, false, false, false, false, false,
@@ -21,7 +22,8 @@ pub const NAME_BYTES: [bool; 256] = [
     true, true, true, true, true, true, true, true, true, true, true, true, true, true, true,
 ];
 
-/// Bytes that can begin a name and can't begin a literal.
+/// Bytes that can begin a name and can't begin a literal: ASCII letters other than r, u, b and f, `_`, and bytes of at least
+/// 0x80.
 pub const PLAIN_NAME_STARTS: [bool; 256] = [
     false, false, false, false, false, false, false, false, false, false, false, false, false,
     false, false, false, false, false, false, false, false, false, false, false, false, false,
@@ -43,7 +45,7 @@ pub const PLAIN_NAME_STARTS: [bool; 256] = [
     true, true, true, true,
 ];
 
-/// Quotes and letters of prefixes.
+/// Bytes that can begin a literal: quotes and the letters r, u, b and f, in upper and lower case.
 pub const LITERAL_STARTS: [bool; 256] = [
     false, false, false, false, false, false, false, false, false, false, false, false, false,
     false, false, false, false, false, false, false, false, false, false, false, false, false,
@@ -67,7 +69,7 @@ pub const LITERAL_STARTS: [bool; 256] = [
     false, false, false, false,
 ];
 
-/// Operator characters that can't begin a number.
+/// Operator characters, delimiters and brackets, except `.`, which can also begin a number.
 pub const PLAIN_OPERATORS: [bool; 256] = [
     false, false, false, false, false, false, false, false, false, false, false, false, false,
     false, false, false, false, false, false, false, false, false, false, false, false, false,
@@ -163,7 +165,7 @@ pub const CLOSING_BRACKETS: [bool; 256] = [
     false, false, false, false, false, false, false, false, false,
 ];
 
-/// Ordinary bytes, which can't begin a literal without a prefix, a comment, a joined line or a fault.
+/// Ordinary bytes: spaces, tabs, form feeds, CR, LF, bytes of names, operator characters, delimiters and brackets.
 pub const ORDINARY_BYTES: [bool; 256] = [
     false, false, false, false, false, false, false, false, false, true, true, false, true, true,
     false, false, false, false, false, false, false, false, false, false, false, false, false,

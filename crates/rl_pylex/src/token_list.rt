@@ -13,7 +13,7 @@ pub enum TokenKind {
     Number,
     /// One literal, with its prefix and its quotes.
     Literal,
-    /// One operator character, or one bracket.
+    /// One operator character, one delimiter such as `.` or `,`, or one bracket.
     Op,
     /// A line end outside brackets.
     LineEnd,
@@ -21,19 +21,22 @@ pub enum TokenKind {
     Comment,
 }
 
-/// A token: the bytes of its source from the place `from` up to, but not including, the place `upto`.
+/// A token: a range of bytes of its source, and its kind.
 #[derive(Clone, Copy, Debug, PartialEq, Eq)]
 pub struct Token {
+    /// The kind.
     pub kind: TokenKind,
+    /// The index of the first byte, counted from 0.
     pub from: u32,
+    /// The index after the last byte.
     pub upto: u32,
 }
 
 /// The tokens of a source in order.
 pub type TokenList = Items<Token>;
 
-/// Returns the bytes of a token in this source. If the token reaches beyond the end of the source, only the bytes that exist
-/// are returned.
+/// Returns the bytes of the source from `token.from` up to, but not including, `token.upto`. If the token reaches beyond the
+/// end of the source, only the bytes that exist are returned.
 pub fn text_of(source: &[u8], token: Token) -> &[u8]
     ensures { result.now ≡ text_of source.now token }
 {

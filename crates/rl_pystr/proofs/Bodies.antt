@@ -12,7 +12,7 @@ use Rattle.rl_pystr.specs.declared.fault.StrError.{StrError}
 use Rattle.rl_pystr.specs.declared.fault.StrError.TheVariants as error
 use Rattle.rl_pystr.specs.declared.placed.Placed.{Placed}
 use Rattle.rl_pystr.specs.Escapes.{unit, size_of}
-use Rattle.rl_pystr.specs.Values.{empty, joined, before, refusal, given, value_from, IsRefused}
+use Rattle.rl_pystr.specs.Values.{empty, joined, joined_results, refusal, given, value_from, IsRefused}
 use Rattle.rl_pystr.specs.Runs.{token_value, values}
 
 joined_by : List ℕ → List ℕ → Placed
@@ -26,22 +26,22 @@ joined-empty : (a : Placed) → joined a empty ≡ a
 unfolding joined_by
 joined-empty a = ap₂ joined_by (append-nil a.codes) (append-nil a.places)
 
-pub before_assoc : (p q r : Result Placed StrError) → before (before p q) r ≡ before p (before q r)
+pub before_assoc : (p q r : Result Placed StrError) → joined_results (joined_results p q) r ≡ joined_results p (joined_results q r)
 before_assoc (Ok a) (Ok b) (Ok c) = ap Ok (joined-assoc a b c)
 before_assoc (Ok a) (Ok b) (Err e) = refl
 before_assoc (Ok a) (Err e) r = refl
 before_assoc (Err e) q r = refl
 
-pub before-empty : (a : Placed) → before (Ok a) (Ok empty) ≡ Ok a
+pub before-empty : (a : Placed) → joined_results (Ok a) (Ok empty) ≡ Ok a
 before-empty a = ap Ok (joined-empty a)
 
-pub empty-before : (r : Result Placed StrError) → before (Ok empty) r ≡ r
+pub empty-before : (r : Result Placed StrError) → joined_results (Ok empty) r ≡ r
 empty-before (Ok a) = refl
 empty-before (Err e) = refl
 
-pub IsRefused-before : (p r : Result Placed StrError) (e : StrError) → IsRefused p e → IsRefused (before p r) e
+pub IsRefused-before : (p r : Result Placed StrError) (e : StrError) → IsRefused p e → IsRefused (joined_results p r) e
 IsRefused-before p r error.OutOfMemory h = tt
-IsRefused-before p r _ h = ap (λ q. before q r) h
+IsRefused-before p r _ h = ap (λ q. joined_results q r) h
 
 pub IsRefused-refusal : (why : Cause) (place : ℕ) → IsRefused (Err (refusal why place)) (refusal why place)
 IsRefused-refusal cause.BadEscape place = refl
@@ -68,62 +68,62 @@ value-skip raw bytes place (suc skip) (c ∷ text) h k =
 -- A unit that the text begins with.
 pub value-unit : (raw bytes : Bool) (place : ℕ) (text : List ℕ) → 0 < length text
     → value_from raw bytes place 0 text
-    ≡ before (given (unit raw bytes text) place) (value_from raw bytes (place + len_utf8 (get_or text 0 0)) (size_of (unit raw bytes text) - 1) (drop 1 text))
+    ≡ joined_results (given (unit raw bytes text) place) (value_from raw bytes (place + len_utf8 (get_or text 0 0)) (size_of (unit raw bytes text) - 1) (drop 1 text))
 value-unit raw bytes place [] k = absurd (omega arith)
 value-unit raw bytes place (c ∷ text) k = refl
 
 pub step_more : (raw bytes : Bool) (place : ℕ) (text : List ℕ) (old new : Placed) → 0 < length text
-    → Ok new ≡ before (Ok old) (given (unit raw bytes text) place)
-    → before (Ok old) (value_from raw bytes place 0 text) ≡ before (Ok new) (value_from raw bytes (place + len_utf8 (get_or text 0 0)) (size_of (unit raw bytes text) - 1) (drop 1 text))
+    → Ok new ≡ joined_results (Ok old) (given (unit raw bytes text) place)
+    → joined_results (Ok old) (value_from raw bytes place 0 text) ≡ joined_results (Ok new) (value_from raw bytes (place + len_utf8 (get_or text 0 0)) (size_of (unit raw bytes text) - 1) (drop 1 text))
 step_more raw bytes place text old new some e =
     let rest = value_from raw bytes (place + len_utf8 (get_or text 0 0)) (size_of (unit raw bytes text) - 1) (drop 1 text) in
-    ap (before (Ok old)) (value-unit raw bytes place text some)
+    ap (joined_results (Ok old)) (value-unit raw bytes place text some)
     ∙ sym (before_assoc (Ok old) (given (unit raw bytes text) place) rest)
-    ∙ ap (λ p. before p rest) (sym e)
+    ∙ ap (λ p. joined_results p rest) (sym e)
 
 pub step_refused : (raw bytes : Bool) (place : ℕ) (text : List ℕ) (old : Placed) (e : StrError) → 0 < length text
-    → IsRefused (before (Ok old) (given (unit raw bytes text) place)) e
-    → IsRefused (before (Ok old) (value_from raw bytes place 0 text)) e
+    → IsRefused (joined_results (Ok old) (given (unit raw bytes text) place)) e
+    → IsRefused (joined_results (Ok old) (value_from raw bytes place 0 text)) e
 step_refused raw bytes place text old e some h =
     let rest = value_from raw bytes (place + len_utf8 (get_or text 0 0)) (size_of (unit raw bytes text) - 1) (drop 1 text) in
-    let same : before (before (Ok old) (given (unit raw bytes text) place)) rest ≡ before (Ok old) (value_from raw bytes place 0 text) =
-    before_assoc (Ok old) (given (unit raw bytes text) place) rest ∙ ap (before (Ok old)) (sym (value-unit raw bytes place text some)) in
-    subst (λ r. IsRefused r e) same (IsRefused-before (before (Ok old) (given (unit raw bytes text) place)) rest e h)
+    let same : joined_results (joined_results (Ok old) (given (unit raw bytes text) place)) rest ≡ joined_results (Ok old) (value_from raw bytes place 0 text) =
+    before_assoc (Ok old) (given (unit raw bytes text) place) rest ∙ ap (joined_results (Ok old)) (sym (value-unit raw bytes place text some)) in
+    subst (λ r. IsRefused r e) same (IsRefused-before (joined_results (Ok old) (given (unit raw bytes text) place)) rest e h)
 
 pub step_skips : (raw bytes : Bool) (place skip : ℕ) (text : List ℕ) (old : Placed) → 0 < skip → 0 < length text
-    → before (Ok old) (value_from raw bytes place skip text) ≡ before (Ok old) (value_from raw bytes (place + len_utf8 (get_or text 0 0)) (skip - 1) (drop 1 text))
-step_skips raw bytes place skip text old h k = ap (before (Ok old)) (value-skip raw bytes place skip text h k)
+    → joined_results (Ok old) (value_from raw bytes place skip text) ≡ joined_results (Ok old) (value_from raw bytes (place + len_utf8 (get_or text 0 0)) (skip - 1) (drop 1 text))
+step_skips raw bytes place skip text old h k = ap (joined_results (Ok old)) (value-skip raw bytes place skip text h k)
 
 -- The first unit is read, and what it gives is appended.
 pub step_done : (raw bytes : Bool) (place skip next : ℕ) (text : List ℕ) (old new : Placed) (gives : Gives) → skip ≤ 0 → 0 < length text
-    → gives ≡ unit raw bytes text → Ok new ≡ before (Ok old) (given gives place) → next ≡ size_of gives - 1
-    → before (Ok old) (value_from raw bytes place skip text) ≡ before (Ok new) (value_from raw bytes (place + len_utf8 (get_or text 0 0)) next (drop 1 text))
+    → gives ≡ unit raw bytes text → Ok new ≡ joined_results (Ok old) (given gives place) → next ≡ size_of gives - 1
+    → joined_results (Ok old) (value_from raw bytes place skip text) ≡ joined_results (Ok new) (value_from raw bytes (place + len_utf8 (get_or text 0 0)) next (drop 1 text))
 step_done raw bytes place skip next text old new gives none some u e size =
-    ap (λ k. before (Ok old) (value_from raw bytes place k text)) (omega arith)
-    ∙ step_more raw bytes place text old new some (e ∙ ap (λ g. before (Ok old) (given g place)) u)
-    ∙ ap (λ k. before (Ok new) (value_from raw bytes (place + len_utf8 (get_or text 0 0)) k (drop 1 text))) (ap (λ g. size_of g - 1) (sym u) ∙ sym size)
+    ap (λ k. joined_results (Ok old) (value_from raw bytes place k text)) (omega arith)
+    ∙ step_more raw bytes place text old new some (e ∙ ap (λ g. joined_results (Ok old) (given g place)) u)
+    ∙ ap (λ k. joined_results (Ok new) (value_from raw bytes (place + len_utf8 (get_or text 0 0)) k (drop 1 text))) (ap (λ g. size_of g - 1) (sym u) ∙ sym size)
 
 pub ruleset steps = (step_more, step_refused, step_skips)
 
 -- One more token.
-pub token_done : (p q : Result Placed StrError) (old new : Placed) → Ok new ≡ before (Ok old) p → before (Ok old) (before p q) ≡ before (Ok new) q
-token_done p q old new e = sym (before_assoc (Ok old) p q) ∙ ap (λ r. before r q) (sym e)
+pub token_done : (p q : Result Placed StrError) (old new : Placed) → Ok new ≡ joined_results (Ok old) p → joined_results (Ok old) (joined_results p q) ≡ joined_results (Ok new) q
+token_done p q old new e = sym (before_assoc (Ok old) p q) ∙ ap (λ r. joined_results r q) (sym e)
 
-pub token_refused : (p q : Result Placed StrError) (old : Placed) (e : StrError) → IsRefused (before (Ok old) p) e → IsRefused (before (Ok old) (before p q)) e
+pub token_refused : (p q : Result Placed StrError) (old : Placed) (e : StrError) → IsRefused (joined_results (Ok old) p) e → IsRefused (joined_results (Ok old) (joined_results p q)) e
 token_refused p q old e h =
-    subst (λ r. IsRefused r e) (before_assoc (Ok old) p q) (IsRefused-before (before (Ok old) p) q e h)
+    subst (λ r. IsRefused r e) (before_assoc (Ok old) p q) (IsRefused-before (joined_results (Ok old) p) q e h)
 
-pub front_done : (bytes : Bool) (s : List ℕ) (run : List Token) (t d : Token) (old new : Placed) → 0 < length run → t ≡ get_or run 0 d → Ok new ≡ before (Ok old) (token_value bytes s t)
-    → before (Ok old) (values bytes s run) ≡ before (Ok new) (values bytes s (drop 1 run))
+pub front_done : (bytes : Bool) (s : List ℕ) (run : List Token) (t d : Token) (old new : Placed) → 0 < length run → t ≡ get_or run 0 d → Ok new ≡ joined_results (Ok old) (token_value bytes s t)
+    → joined_results (Ok old) (values bytes s run) ≡ joined_results (Ok new) (values bytes s (drop 1 run))
 front_done bytes s [] t d old new some e h = absurd (omega arith)
 front_done bytes s (x ∷ xs) t d old new some e h =
-    token_done (token_value bytes s x) (values bytes s xs) old new (h ∙ ap (λ u. before (Ok old) (token_value bytes s u)) e)
+    token_done (token_value bytes s x) (values bytes s xs) old new (h ∙ ap (λ u. joined_results (Ok old) (token_value bytes s u)) e)
 
-pub front_refused : (bytes : Bool) (s : List ℕ) (run : List Token) (t d : Token) (old : Placed) (e : StrError) → 0 < length run → t ≡ get_or run 0 d → IsRefused (before (Ok old) (token_value bytes s t)) e
-    → IsRefused (before (Ok old) (values bytes s run)) e
+pub front_refused : (bytes : Bool) (s : List ℕ) (run : List Token) (t d : Token) (old : Placed) (e : StrError) → 0 < length run → t ≡ get_or run 0 d → IsRefused (joined_results (Ok old) (token_value bytes s t)) e
+    → IsRefused (joined_results (Ok old) (values bytes s run)) e
 front_refused bytes s [] t d old e some same h = absurd (omega arith)
 front_refused bytes s (x ∷ xs) t d old e some same h =
-    token_refused (token_value bytes s x) (values bytes s xs) old e (subst (λ u. IsRefused (before (Ok old) (token_value bytes s u)) e) same h)
+    token_refused (token_value bytes s x) (values bytes s xs) old e (subst (λ u. IsRefused (joined_results (Ok old) (token_value bytes s u)) e) same h)
 
 pub front_read : (s : List ℕ) (run : List Token) (d : Token) → 0 < length run → All (IsReadAt s) run → IsReadAt s (get_or run 0 d)
 front_read s run d some h = h 0 d some

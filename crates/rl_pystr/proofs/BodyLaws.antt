@@ -9,7 +9,7 @@ use Rattle.std.proofs.lemmas.List.{length-append}
 use Rattle.std.proofs.lemmas.List.Folds.{list_all-append}
 use Rattle.rl_pylex.specs.Bytes.{line_end}
 use Rattle.rl_pylex.specs.Literals.{unit_size, quote_count, close_from}
-use Rattle.rl_pystr.specs.Values.{before, value_from}
+use Rattle.rl_pystr.specs.Values.{joined_results, value_from}
 use Rattle.rl_pystr.specs.Quoting.{escaped, is_plain, ends_in_backslash}
 use Rattle.rl_pystr.proofs.HexLaws.{passes}
 use Rattle.rl_pystr.proofs.PieceLaws.{is_ascii, piece_of, top, close_one, raw_unit, one, unit_back}
@@ -51,7 +51,7 @@ escaped_value bytes (c ∷ cs) place h =
       place ∷ later.0,
       ap (λ xs. value_from false bytes place 0 (xs ++ rest)) p.is
           ∙ unit_back false bytes place c p.head p.tail rest p.head_ascii p.tail_ascii (p.unit_is rest)
-          ∙ ap (before (Ok (one c place))) later.1,
+          ∙ ap (joined_results (Ok (one c place))) later.1,
     )
 
 escaped_ascii : (bytes : Bool) (cs : List ℕ) → Below bytes cs → list_all is_ascii (flat_map (escaped bytes) cs) ≡ true
@@ -135,7 +135,7 @@ raw_value bytes (c ∷ cs) place h =
     let later = raw_value bytes cs (place + 1 + 0) (right-of (is_plain c) (list_all is_plain cs) h) in (
       place ∷ later.0,
       unit_back true bytes place c c [] cs (plain_ascii c plain) refl (raw_unit bytes c cs (plain_ascii c plain) (plain_line c cs plain))
-          ∙ ap (before (Ok (one c place))) later.1,
+          ∙ ap (joined_results (Ok (one c place))) later.1,
     )
 
 raw_ascii : (cs : List ℕ) → list_all is_plain cs ≡ true → list_all is_ascii cs ≡ true

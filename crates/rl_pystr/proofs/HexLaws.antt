@@ -39,9 +39,6 @@ both-true true true e f = refl
 both-true true false e f = f
 both-true false b e f = e
 
-hex_small : (n : ℕ) → nat_lt n 16 ≡ true → n < 16
-hex_small n h = grind (arith, nat_tests)
-
 small_hex : (n : ℕ) → n < 16 → nat_lt n 16 ≡ true
 small_hex n h = grind (arith, nat_tests)
 

@@ -13,7 +13,7 @@ use Rattle.rl_pystr.specs.declared.escapes.Gives.TheVariants.{One, Refuses}
 use Rattle.rl_pystr.specs.declared.escapes.Cause.TheVariants as cause
 use Rattle.rl_pystr.specs.declared.placed.Placed.{Placed}
 use Rattle.rl_pystr.specs.Escapes.{named_code, text_escape, escape, unit, size_of}
-use Rattle.rl_pystr.specs.Values.{before, given, value_from}
+use Rattle.rl_pystr.specs.Values.{joined_results, given, value_from}
 use Rattle.rl_pystr.specs.Quoting.{hex, short_escape, hex_escape, is_printed, escaped}
 use Rattle.rl_pystr.proofs.HexLaws.{passes, length-hex, all_passing, hexadecimal_back}
 
@@ -259,12 +259,12 @@ one code place = record { codes = code ∷ []; places = place ∷ [] }
 
 -- A unit that gives one code point puts it before the value of the rest.
 pub unit_back : (raw bytes : Bool) (place c x : ℕ) (xs rest : List ℕ) → is_ascii x ≡ true → list_all is_ascii xs ≡ true → unit raw bytes (x ∷ (xs ++ rest)) ≡ One c (1 + length xs)
-    → value_from raw bytes place 0 (x ∷ (xs ++ rest)) ≡ before (Ok (one c place)) (value_from raw bytes (place + 1 + length xs) 0 rest)
+    → value_from raw bytes place 0 (x ∷ (xs ++ rest)) ≡ joined_results (Ok (one c place)) (value_from raw bytes (place + 1 + length xs) 0 rest)
 unit_back raw bytes place c x xs rest a all e =
-    ap (λ u. before (given u place) (value_from raw bytes (place + len_utf8 x) (size_of u - 1) (xs ++ rest))) e
-    ∙ ap (λ n. before (Ok (one c place)) (value_from raw bytes (place + n) (1 + length xs - 1) (xs ++ rest))) (len_utf8_ascii x (ascii_small x a))
-    ∙ ap (λ k. before (Ok (one c place)) (value_from raw bytes (place + 1) k (xs ++ rest))) (less (length xs))
-    ∙ ap (before (Ok (one c place))) (skips raw bytes (place + 1) xs rest all)
+    ap (λ u. joined_results (given u place) (value_from raw bytes (place + len_utf8 x) (size_of u - 1) (xs ++ rest))) e
+    ∙ ap (λ n. joined_results (Ok (one c place)) (value_from raw bytes (place + n) (1 + length xs - 1) (xs ++ rest))) (len_utf8_ascii x (ascii_small x a))
+    ∙ ap (λ k. joined_results (Ok (one c place)) (value_from raw bytes (place + 1) k (xs ++ rest))) (less (length xs))
+    ∙ ap (joined_results (Ok (one c place))) (skips raw bytes (place + 1) xs rest all)
   where
     less : (n : ℕ) → 1 + n - 1 ≡ n
     less n = omega arith

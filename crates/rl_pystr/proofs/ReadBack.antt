@@ -16,7 +16,7 @@ use Rattle.rl_pylex.specs.Source.{text_of}
 use Rattle.rl_pystr.specs.declared.fault.StrError.{StrError}
 use Rattle.rl_pystr.specs.declared.fault.StrError.TheVariants as error
 use Rattle.rl_pystr.specs.declared.placed.Placed.{Placed}
-use Rattle.rl_pystr.specs.Values.{empty, before, value_from}
+use Rattle.rl_pystr.specs.Values.{empty, joined_results, value_from}
 use Rattle.rl_pystr.specs.Runs.{letter_count, has_letter, quotes_of, body_start, body_of, literal_value, values, has_bytes, value_of_run, universe_by}
 use Rattle.rl_pystr.specs.Quoting.{is_bytes, escaped, is_plain, ends_in_backslash, is_raw, bytes_prefix, quoted_body, quoted}
 use Rattle.rl_pystr.specs.Laws.{whole, IsReadBack, IsQuotingReadBack}
@@ -165,8 +165,8 @@ run_value bytes text p f b v =
     (or-false (has_letter 102 (text_of text (whole text))) ∙ ap (has_letter 102) same ∙ f)
     (ap₂ (λ a c. a && (not c || false)) (or-false (has_letter 98 (text_of text (whole text))) ∙ y) y ∙ not_mixed bytes)
     ∙ ap (λ a. values a text (whole text ∷ [])) (or-false (has_letter 98 (text_of text (whole text))) ∙ y)
-    ∙ ap (λ xs. before (literal_value bytes 0 xs) (Ok empty)) same
-    ∙ ap (λ r. before r (Ok empty)) v
+    ∙ ap (λ xs. joined_results (literal_value bytes 0 xs) (Ok empty)) same
+    ∙ ap (λ r. joined_results r (Ok empty)) v
     ∙ before-empty p
 
 by_bytes : (u : Universe) → universe_by (is_bytes u) ≡ u

@@ -1,4 +1,8 @@
--- The units of a literal's body: a single code point, a line end, or an escape. A text is a list of code points.
+-- The units of a literal's body: a single code point, a line end, or an escape. A text is a list of code points. A unit gives
+-- `Nothing size`, no code point; `One code size`, one code point; `Both code`, a backslash and `code`; or `Refuses cause
+-- offset`, an error at the byte that many bytes after the unit's place. `size` is the number of code points in the unit. A
+-- place is a byte index in the source, counted from 0. A literal of bytes has a `b` in its prefix, and a raw literal has an
+-- `r`.
 use Rattle.std.specs.Prelude.{ℕ, ◌+◌, ◌*◌, ◌==◌, Bool, not, ◌&&◌, ◌||◌, nat_lt, min, List, [], ◌∷◌, length, take, Option, Some, None, if◌then◌else◌}
 use Rattle.std.specs.List.{prefix_len, list_all, fold}
 use Rattle.std.specs.Map.{lookup}
@@ -8,59 +12,70 @@ use Rattle.rl_pystr.specs.declared.escapes.Cause.TheVariants as cause
 use Rattle.rl_pystr.specs.declared.escapes.Gives.{Gives}
 use Rattle.rl_pystr.specs.declared.escapes.Gives.TheVariants.{Nothing, One, Both, Refuses}
 
--- Whether the code point is an octal digit.
+-- Whether the code point is an octal digit, `0` to `7`.
 abbrev pub is_octal : ℕ → Bool
 is_octal c = nat_lt (digit_value c) 8
 
--- Whether the code point is a hexadecimal digit.
+-- Whether the code point is a hexadecimal digit, in upper or lower case.
 abbrev pub is_hex : ℕ → Bool
 is_hex c = nat_lt (digit_value c) 16
 
--- The number that the digits spell in a base.
+-- The number that the list of digits spells in the base `base`, the most significant digit first. The empty list gives 0.
 abbrev pub number_of : ℕ → List ℕ → ℕ
 number_of base digits = fold (λ n digit. n * base + digit_value digit) 0 digits
 
--- An escape of one to three octal digits. It takes as many digits as there are, and a number above 255 has no value.
+-- What an escape of one to three octal digits gives, given the text after the backslash, which begins with such a digit. The
+-- escape takes as many digits as there are, up to three. A number above 255 is refused, at the place of the backslash.
 unfoldable pub octal : List ℕ → Gives
 octal text =
     let count = min 3 (prefix_len is_octal text) in
     let number = number_of 8 (take count text) in
     if nat_lt 255 number then Refuses cause.BadEscape 0 else One number (1 + count)
 
--- Whether the text begins with `count` hexadecimal digits.
+-- Whether the text begins with at least `count` hexadecimal digits.
 unfoldable pub has_hex : ℕ → List ℕ → Bool
 has_hex count text = (length (take count text) == count) && list_all is_hex (take count text)
 
--- An escape of `count` hexadecimal digits. It has no value if there are fewer, or if the number isn't a code point.
+-- What an escape of a letter and `count` hexadecimal digits gives, given the text after the letter. It is refused, at the
+-- place of the backslash, if fewer digits follow or if the number is above 0x10FFFF.
 unfoldable pub hexadecimal : ℕ → List ℕ → Gives
 hexadecimal count text =
     let number = number_of 16 (take count text) in
     if not (has_hex count text) || nat_lt 0x10FFFF number then Refuses cause.BadEscape 0 else One number (2 + count)
 
--- The code points of the escapes `\a`, `\b`, `\f`, `\n`, `\r`, `\t` and `\v`.
+-- The code point that a backslash and the letter `c` give: 7 for `\a`, 8 for `\b`, 12 for `\f`, 10 for `\n`, 13 for `\r`, 9
+-- for `\t` and 11 for `\v`. `None` for any other `c`.
 unfoldable pub named_code : ℕ → Option ℕ
 named_code c =
     lookup (λ letter. c == letter)
     ((97, 7) ∷ (98, 8) ∷ (102, 12) ∷ (110, 10) ∷ (114, 13) ∷ (116, 9) ∷ (118, 11) ∷ [])
 
--- Any other code point after a backslash, in bytes.
+-- What a backslash and the code point `c` give in a literal of bytes if they are no other escape: both code points, or a
+-- refusal at the place of `c` if it isn't ASCII.
 unfoldable pub byte_escape : ℕ → Gives
 byte_escape c = if nat_lt 127 c then Refuses cause.NotAscii 1 else Both c
 
--- The escapes `\u`, `\U` and `\N`, or any other code point after a backslash, in text.
+-- What a backslash, the code point `c` and the text `rest` after it give in a literal of text if they are none of the escapes
+-- that literals of bytes have too. `\u` with four digits and `\U` with eight give one code point. `\N` is refused at the
+-- backslash: with the cause `NamedEscape` if `{` follows, otherwise with `BadEscape`. Any other `c` gives the backslash and
+-- `c`.
 unfoldable pub text_escape : ℕ → List ℕ → Gives
 text_escape c rest =
     if c == 117 then hexadecimal 4 rest
     else (if c == 85 then hexadecimal 8 rest
     else (if c == 78 then Refuses (if begins "{" rest then cause.NamedEscape else cause.BadEscape) 0 else Both c))
 
--- The escape by a letter if there is one, otherwise the other reading.
+-- What a backslash and a letter give: the first argument, the code point of the letter's escape, if there is one. If it is
+-- `None`, the value is `other`.
 abbrev pub named_or : Option ℕ → Gives → Gives
 named_or None other = other
 named_or (Some code) other = One code 2
 
--- The escape that consists of a backslash and the beginning of this text, by the first row that fits. The text is never empty
--- in practice, because no literal's body ends with a single backslash.
+-- What the escape gives that consists of a backslash and the beginning of this text. `bytes` says whether the literal is one
+-- of bytes. The first case that applies counts: a line end gives no code point; a backslash or a quote gives itself; an octal
+-- digit begins an octal escape; `x` begins one of two hexadecimal digits; a letter of `named_code` gives its code point;
+-- anything else gives what `byte_escape` or `text_escape` says. The empty text gives the backslash, but no literal's body ends
+-- so.
 abbrev pub escape : Bool → List ℕ → Gives
 escape bytes [] = One 92 1
 escape bytes (c ∷ rest) =
@@ -70,8 +85,9 @@ escape bytes (c ∷ rest) =
     else (if c == 120 then hexadecimal 2 rest
     else named_or (named_code c) (if bytes then byte_escape c else text_escape c rest))))
 
--- The unit that a text in a body begins with. `raw` and `bytes` say what kind of literal it is. A line end gives the code point
--- 10.
+-- What the unit gives with which the text, a part of a literal's body, begins. `raw` says whether the literal is raw, so that
+-- a backslash begins no escape, and `bytes` whether it is one of bytes. A line end gives the code point 10.
+-- The empty text gives `Nothing 1`.
 abbrev pub unit : Bool → Bool → List ℕ → Gives
 unit raw bytes [] = Nothing 1
 unit raw bytes (c ∷ rest) =
@@ -79,7 +95,7 @@ unit raw bytes (c ∷ rest) =
     else (if not raw && c == 92 then escape bytes rest
     else (if bytes && nat_lt 127 c then Refuses cause.NotAscii 0 else One c 1))
 
--- The number of code points in the unit.
+-- The number of code points in a unit that gives this. A refused unit counts as 1.
 abbrev pub size_of : Gives → ℕ
 size_of (Nothing size) = size
 size_of (One code size) = size

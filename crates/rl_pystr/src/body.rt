@@ -1,9 +1,10 @@
-//! The value of a literal's body: the values of its units in order.
+//! The value of a literal's body: the values of its units in order. A unit is a single code point, a line end, or an escape. A
+//! place is a byte index in the source, counted from 0.
 ghost use Rattle.std.specs.Prelude.{◌≡◌, ℕ, ◌+◌, ◌*◌, ◌^◌, ◌<◌, ◌≤◌, ◌-◌, drop, length, slice_index, IfOk, IfErr, OnOk, Ok, IsUtf8};
 ghost use Rattle.std.specs.Str.{chars};
 ghost use Rattle.std.specs.Char.{len_utf8};
 ghost use Rattle.rl_pystr.specs.Escapes.{size_of};
-ghost use Rattle.rl_pystr.specs.Values.{before, given, refusal, value_from, IsRefused};
+ghost use Rattle.rl_pystr.specs.Values.{joined_results, given, refusal, value_from, IsRefused};
 
 use crate::StrError;
 use crate::escapes::{Cause, Gives, unit};
@@ -34,8 +35,8 @@ fn size_of(gives: Gives) -> usize
 #[tactic(auto, using(crate::proofs::Bodies::refusals))]
 fn push_given(out: &mut Placed, gives: Gives, place: u32) -> Result<(), StrError>
     requires { place + 256 < 2 ^ 32 }
-    ensures ok { OnOk result (Ok out.new ≡ before (Ok out.old) (given gives place)) }
-    ensures err { IfErr result (IsRefused (before (Ok out.old) (given gives place))) }
+    ensures ok { OnOk result (Ok out.new ≡ joined_results (Ok out.old) (given gives place)) }
+    ensures err { IfErr result (IsRefused (joined_results (Ok out.old) (given gives place))) }
 {
     match gives {
         Gives::Nothing(_) => Ok(()),
@@ -61,8 +62,8 @@ fn step(
 ) -> Result<usize, StrError>
     requires some { 0 < length body.now }
     requires place { place + 256 < 2 ^ 32 }
-    ensures ok { IfOk result (λ next. before (Ok out.old) (value_from raw bytes place skip body.now) ≡ before (Ok out.new) (value_from raw bytes (place + len_utf8 (slice_index body.now 0)) next (drop 1 body.now))) }
-    ensures err { IfErr result (IsRefused (before (Ok out.old) (value_from raw bytes place skip body.now))) }
+    ensures ok { IfOk result (λ next. joined_results (Ok out.old) (value_from raw bytes place skip body.now) ≡ joined_results (Ok out.new) (value_from raw bytes (place + len_utf8 (slice_index body.now 0)) next (drop 1 body.now))) }
+    ensures err { IfErr result (IsRefused (joined_results (Ok out.old) (value_from raw bytes place skip body.now))) }
 {
     if skip > 0 {
         return Ok(skip - 1);
@@ -72,7 +73,12 @@ fn step(
     Ok(size_of(gives).saturating_sub(1))
 }
 
-/// Appends the value of a body that begins at a byte place.
+/// Appends the value of a body to `out`. Its first code point is at the byte place `first` of the source. `raw` says whether
+/// the literal is raw, and `bytes` whether it is one of bytes. `first + 4 * body.len() + 256` must be less than 2^32, so that
+/// every place fits in 32 bits.
+///
+/// # Errors
+/// The first fault in the body, or [`StrError::OutOfMemory`] if memory runs out. What `out` has afterwards isn't specified.
 #[tactic(auto, using(crate::proofs::Bodies::refusals))]
 pub fn push_body(
     out: &mut Placed,
@@ -82,8 +88,8 @@ pub fn push_body(
     body: &[char],
 ) -> Result<(), StrError>
     requires { first + 4 * length body.now + 256 < 2 ^ 32 }
-    ensures ok { OnOk result (Ok out.new ≡ before (Ok out.old) (value_from raw bytes first 0 body.now)) }
-    ensures err { IfErr result (IsRefused (before (Ok out.old) (value_from raw bytes first 0 body.now))) }
+    ensures ok { OnOk result (Ok out.new ≡ joined_results (Ok out.old) (value_from raw bytes first 0 body.now)) }
+    ensures err { IfErr result (IsRefused (joined_results (Ok out.old) (value_from raw bytes first 0 body.now))) }
 {
     let mut place = first;
     let mut skip = 0;
@@ -96,7 +102,10 @@ pub fn push_body(
     Ok(())
 }
 
-/// Returns the code points of UTF-8 bytes.
+/// Returns the code points that these bytes encode, which must be UTF-8.
+///
+/// # Errors
+/// [`StrError::OutOfMemory`] if memory runs out.
 pub fn decoded(alloc: Global, bytes: &[u8]) -> Result<Vec<char>, StrError>
     requires { IsUtf8 bytes.now }
     ensures value { IfOk result (λ codes. codes.items ≡ chars bytes.now) }

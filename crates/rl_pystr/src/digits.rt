@@ -1,11 +1,12 @@
-//! Line ends and digits at the beginning of a text.
+//! Line ends and digits at the beginning of a text, which is a list of code points.
 ghost use Rattle.std.specs.Prelude.{◌≡◌, ℕ, ◌+◌, ◌<◌, ◌≤◌, ◌^◌, min, length, not, ◌==◌, true};
 ghost use Rattle.std.specs.List.{prefix_len, list_all};
 ghost use Rattle.std.specs.Char.{digit_value};
 ghost use Rattle.rl_pylex.specs.Bytes.{line_end};
 ghost use Rattle.rl_pystr.specs.Escapes.{is_octal, is_hex, number_of, has_hex};
 
-/// Returns the number of code points in the line end that the text begins with, or 0 if it doesn't begin with one.
+/// Returns the number of code points in the line end that the text begins with: 2 for CR LF, 1 for any other CR or LF, and 0
+/// if it doesn't begin with a line end.
 #[tactic(auto, unfolding(rl_pylex::specs::Bytes::line_end))]
 pub fn line_end(text: &[char]) -> usize
     ensures value { result ≡ line_end text.now }
@@ -18,7 +19,7 @@ pub fn line_end(text: &[char]) -> usize
     }
 }
 
-/// Whether the code point is an octal digit.
+/// Whether the code point is an octal digit, `0` to `7`.
 pub fn is_octal(code: char) -> bool
     ensures { result ≡ is_octal code }
 {
@@ -50,7 +51,7 @@ fn are_hex(digits: &[char]) -> bool
     digits.iter().all(|digit| is_hex(*digit))
 }
 
-/// Whether the text begins with `count` hexadecimal digits.
+/// Whether the text begins with at least `count` hexadecimal digits, in upper or lower case.
 #[tactic(auto, unfolding(crate::specs::Escapes::has_hex))]
 pub fn has_hex(count: usize, text: &[char]) -> bool
     ensures value { result ≡ has_hex count text.now }
@@ -70,7 +71,8 @@ fn digit_value(code: char) -> u64
     }
 }
 
-/// Returns the number that at most eight digits spell in a base.
+/// Returns the number that at most eight digits spell in the base `base`, which is at most 16, the most significant first. No
+/// digits give 0.
 pub fn number_of(base: u64, digits: &[char]) -> u64
     requires base { base ≤ 16 }
     requires few { length digits.now ≤ 8 }

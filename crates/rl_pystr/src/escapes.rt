@@ -1,28 +1,32 @@
-//! The units of a literal's body: a single code point, a line end, or an escape.
+//! The units of a literal's body: a single code point, a line end, or an escape. A text is a list of code points. A place is a
+//! byte index in the source, counted from 0. A literal of bytes has a `b` in its prefix, and a raw literal has an `r`.
 ghost use Rattle.std.specs.Prelude.{◌≡◌, ℕ, ◌+◌, ◌<◌, ◌≤◌, ◌∷◌, length, not, ◌==◌, if◌then◌else◌};
 ghost use Rattle.rl_pylex.specs.Bytes.{begins};
 ghost use Rattle.rl_pystr.specs.Escapes.{octal, hexadecimal, named_code, byte_escape, text_escape, named_or, escape, unit, size_of, is_octal};
 
 use crate::digits::{has_hex, is_octal, line_end, number_of, octal_size};
 
-/// Why an escape or a code point has no value.
+/// Why a unit has no value.
 #[derive(Clone, Copy)]
 pub enum Cause {
+    /// It is an escape without a value, such as `\x` with only one digit.
     BadEscape,
+    /// It is an escape that gives a character by its name, such as `\N{DIGIT ONE}`.
     NamedEscape,
+    /// It has a code point of at least 0x80 in a literal of bytes.
     NotAscii,
 }
 
 /// What a unit of a body gives.
 #[derive(Clone, Copy)]
 pub enum Gives {
-    /// No code point. The number is the unit's length.
+    /// No code point. The number is the unit's length in code points.
     Nothing(usize),
-    /// One code point, the first number. The second number is the unit's length.
+    /// One code point, the first number. The second number is the unit's length in code points.
     One(u32, usize),
     /// A backslash and this code point, which follows it.
     Both(u32),
-    /// A refusal. Its place is this many bytes after the place of the unit.
+    /// A refusal with this cause, at the byte that is this many bytes after the place of the unit.
     Refuses(Cause, u8),
 }
 
@@ -139,7 +143,8 @@ fn escape(bytes: bool, text: &[char]) -> Gives
     }
 }
 
-/// Reads the unit that a text in a body begins with. `raw` and `bytes` say what kind of literal it is.
+/// Returns what the unit gives with which the text, a part of a literal's body, begins. `raw` says whether the literal is raw,
+/// so that a backslash begins no escape, and `bytes` whether it is one of bytes. The text must not be empty.
 pub fn unit(raw: bool, bytes: bool, text: &[char]) -> Gives
     requires { 0 < length text.now }
     ensures { result ≡ unit raw bytes text.now }

@@ -5,7 +5,7 @@ ghost use Rattle.rl_pystr.specs.declared.fault.StrError.TheVariants as error;
 use rl_lists::OutOfMemory;
 use std::alloc::AllocError;
 
-/// Why a run of literals has no value. Each number is a byte place in the source.
+/// Why a run of literals has no value. Each number is a byte index in the source, counted from 0.
 #[derive(Clone, Copy)]
 pub enum StrError {
     /// A literal is an f-string.

@@ -6,9 +6,9 @@
 //!
 //! # What is proved
 //!
-//! [`value`] returns exactly the value of the definition, or exactly the first refusal in its order, with its place. [`quote`]
-//! is exact byte for byte. By the law [`read_back`], a quoted text of at most 4,194,304 bytes is one literal token, and its
-//! value is the original text.
+//! Unless memory runs out, [`value`] returns exactly the value of the definition, or exactly the first refusal in its order,
+//! with its place. [`quote`] is exact byte for byte. By the law [`read_back`], a quoted text of at most 4,194,304 bytes is one
+//! literal token, and its value is the original text.
 //!
 //! # Example
 //!

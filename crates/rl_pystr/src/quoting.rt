@@ -1,4 +1,4 @@
-//! Writing texts as literals.
+//! Writing texts as literals. A text is a list of code points, or of bytes in the universe `Bytes`.
 ghost use Rattle.std.specs.Prelude.{◌≡◌, ℕ, ◌+◌, ◌<◌, ◌≤◌, ◌/◌, ◌%◌, ◌∷◌, [], ◌++◌, length, IfOk, OnOk, IsTrue, false, true};
 ghost use Rattle.std.specs.List.{list_all, flat_map};
 ghost use Rattle.std.specs.Fmt.{digit_glyph};
@@ -172,8 +172,9 @@ fn push_quoted_body(out: &mut Vec<u8>, bytes: bool, codes: &[u32]) -> Result<(),
     }
 }
 
-/// Returns a Python literal in double quotes for a text, or for bytes with the prefix `b`. It is a raw literal if each code
-/// point is from 0x20 to 0x7E, none is `"`, and the last isn't a backslash; otherwise it is an ordinary literal with escapes.
+/// Returns a Python literal in double quotes whose value is this text. Each code must belong to the universe: below 0x110000
+/// for `Str`, and below 256 for `Bytes`, for which the literal has the prefix `b`. The literal is raw if each code point is
+/// from 0x20 to 0x7E, none is `"`, and the last isn't a backslash; otherwise it is an ordinary literal with escapes.
 /// The value of a literal of at most 4,194,304 bytes is the original text, by the law [`read_back`](crate::read_back).
 ///
 /// # Errors

@@ -1,9 +1,10 @@
-//! The value of a run of literals.
+//! The value of a run of tokens, which are literals and comments: the values of its literals joined together. A place is a
+//! byte index in the source, counted from 0.
 ghost use Rattle.std.specs.Prelude.{◌≡◌, ℕ, ◌+◌, ◌<◌, ◌≤◌, ◌-◌, ◌∷◌, List, All, take, drop, length, slice_get, option_map, Some, not, IfOk, IfErr, OnOk, Ok, IsUtf8, IsTrue, true};
 ghost use Rattle.std.specs.List.{list_any};
 ghost use Rattle.rl_pylex.specs.Literals.{IsLiteral};
 ghost use Rattle.rl_pylex.specs.Source.{text_of, IsReadAt, IsTokenList};
-ghost use Rattle.rl_pystr.specs.Values.{empty, before, IsRefused};
+ghost use Rattle.rl_pystr.specs.Values.{empty, joined_results, IsRefused};
 ghost use Rattle.rl_pystr.specs.Runs.{is_literal, letter_count, has_letter, quotes_of, body_start, body_of, literal_value, is_lettered, is_unlettered, token_value, values, has_bytes, value_of_run, universe_by, close_of, IsValue, ends_literal, IsLiteralRun};
 
 use crate::body::{decoded, push_body};
@@ -89,8 +90,8 @@ fn push_literal(
     requires utf8 { IsUtf8 (body_of text.now) }
     requires place { place ≤ 4194304 }
     requires short { length text.now ≤ 4194304 }
-    ensures ok { OnOk result (Ok out.new ≡ before (Ok out.old) (literal_value bytes place text.now)) }
-    ensures err { IfErr result (IsRefused (before (Ok out.old) (literal_value bytes place text.now))) }
+    ensures ok { OnOk result (Ok out.new ≡ joined_results (Ok out.old) (literal_value bytes place text.now)) }
+    ensures err { IfErr result (IsRefused (joined_results (Ok out.old) (literal_value bytes place text.now))) }
 {
     let body = decoded(alloc, body_of(text))?;
     let raw = has_letter(b'r', text);
@@ -110,8 +111,8 @@ fn push_token(
     requires read { IsReadAt source.now token }
     requires utf8 { IsUtf8 source.now }
     requires short { length source.now ≤ 4194304 }
-    ensures ok { OnOk result (Ok out.new ≡ before (Ok out.old) (token_value bytes source.now token)) }
-    ensures err { IfErr result (IsRefused (before (Ok out.old) (token_value bytes source.now token))) }
+    ensures ok { OnOk result (Ok out.new ≡ joined_results (Ok out.old) (token_value bytes source.now token)) }
+    ensures err { IfErr result (IsRefused (joined_results (Ok out.old) (token_value bytes source.now token))) }
 {
     if !is_literal(token) {
         return Ok(());
@@ -131,8 +132,8 @@ fn push_values(
     requires read { All (IsReadAt source.now) run.now }
     requires utf8 { IsUtf8 source.now }
     requires short { length source.now ≤ 4194304 }
-    ensures ok { OnOk result (Ok out.new ≡ before (Ok out.old) (values bytes source.now run.now)) }
-    ensures err { IfErr result (IsRefused (before (Ok out.old) (values bytes source.now run.now))) }
+    ensures ok { OnOk result (Ok out.new ≡ joined_results (Ok out.old) (values bytes source.now run.now)) }
+    ensures err { IfErr result (IsRefused (joined_results (Ok out.old) (values bytes source.now run.now))) }
 {
     let mut rest = run;
     while let [token, after @ ..] = rest {
@@ -247,7 +248,8 @@ fn run_of(tokens: &TokenList, first: u32, count: u32) -> &[Token]
 }
 
 /// Returns the value of a run of literals: the values of its literals, joined together. The run consists of `count` tokens of
-/// the source, beginning with `first`. They must be literals and comments, and the first and the last must be literals.
+/// the source, beginning at the index `first`, counted from 0. `tokens` must be all tokens of the source, and the run must lie
+/// within them. It must have only literals and comments, and its first and last tokens must be literals.
 ///
 /// # Errors
 /// These are checked in order:

@@ -1,20 +1,20 @@
 -- Letters: what follows if the sets don't tell two codes apart.
-use Rattle.std.proofs.Common.{Bool, List, Some, [], ap, ap₂, arith, false, get_or, inl, inr, le_refl, length, refl, slice_get, subst, suc, sym, true, zero, ℕ, ◌&&◌, ◌*◌, ◌++◌, ◌+◌, ◌-◌, ◌<◌, ◌==◌, ◌∙◌, ◌∷◌, ◌≡◌, ◌≤◌}
+use Rattle.std.proofs.Common.{Bool, List, Some, [], ap, ap₂, arith, false, get_or, inl, inr, length, refl, slice_get, subst, suc, sym, true, zero, ℕ, ◌&&◌, ◌*◌, ◌++◌, ◌+◌, ◌-◌, ◌<◌, ◌==◌, ◌∙◌, ◌∷◌, ◌≡◌, ◌≤◌}
 use Rattle.std.proofs.Math.Bool.{beq}
-use Rattle.std.proofs.lemmas.Bool.{and_from, and_parts, both_ways, cases_Bool, cases_eq, eq-eqb, le-leb, ne_eqb}
+use Rattle.std.proofs.lemmas.Bool.{and_from, and_parts, both_ways, cases_Bool, eq-eqb, le-leb, ne_eqb}
 use Rattle.std.proofs.lemmas.Bool.Decides.{nat_tests}
 use Rattle.std.proofs.lemmas.List.Edits.{sets}
 use Rattle.std.proofs.lemmas.Option.{slice_get-get_or}
 use Rattle.std.specs.List.{list_any}
 use Rattle.std.specs.Prelude.{if◌then◌else◌}
-use Rattle.rl_ranges.proofs.FirstsLemmas.{IsLikeness, firsts-below, firsts-congr, firsts-finer, firsts-rising, firsts-zero, number-hit, number-least, number-lt, number-of_first, number-only, number-same, piece-new, place-same}
+use Rattle.rl_ranges.proofs.FirstsLemmas.{IsLikeness, firsts-below, firsts-congr, firsts-finer, firsts-zero, number-hit, number-lt, number-of_first, number-only, number-same, piece-new, place-same}
 use Rattle.rl_ranges.proofs.SetLemmas.{and-true, and_assoc}
 use Rattle.rl_ranges.specs.Building.{range_at}
 use Rattle.rl_ranges.specs.Codes.{has}
 use Rattle.rl_ranges.specs.Letters.{IsLetters, IsPlain, LetterTable, alike, class_of, classes, letter_at, letter_from, place_where}
 use Rattle.rl_ranges.specs.Numbering.{IsNumbered, firsts, same_value}
 use Rattle.rl_ranges.specs.declared.letters.TheConstants.{MOST_LETTERS}
-use Rattle.rl_ranges.specs.internal.Splitting.{IsPreferred, TellsApart, value_in}
+use Rattle.rl_ranges.specs.internal.Splitting.{IsPreferred, NumbersLetters, value_in}
 
 beq-same : (x : Bool) → beq x x ≡ true
 beq-same true = refl
@@ -85,11 +85,6 @@ pub class_of-lt : (sets : List (ℕ → Bool)) (n c : ℕ) → c < n → class_o
 class_of-lt sets n c lt =
     rw (class_of-place sets n c, classes-firsts sets n) (number-lt (alike sets) (IsLikeness-alike sets) n c lt)
 
--- The least codes are in ascending order, and each is a code.
-pub classes-rising : (sets : List (ℕ → Bool)) (n i j : ℕ) → i < j → j < length (classes sets n) → get_or (classes sets n) i 0 < get_or (classes sets n) j 0
-classes-rising sets n i j ij lt =
-    rw (classes-firsts sets n) (firsts-rising (alike sets) n i j ij (subst (λ l. j < length l) (classes-firsts sets n) lt))
-
 pub classes-below : (sets : List (ℕ → Bool)) (n k : ℕ) → k < length (classes sets n) → get_or (classes sets n) k 0 < n
 classes-below sets n k lt =
     rw (classes-firsts sets n) (firsts-below (alike sets) n k (subst (λ l. k < length l) (classes-firsts sets n) lt))
@@ -100,10 +95,6 @@ class_of-first sets n k lt =
     class_of-place sets n (get_or (classes sets n) k 0)
     ∙ ap (λ l. place_where (alike sets (get_or l k 0)) (firsts (alike sets) n)) (classes-firsts sets n)
     ∙ number-of_first (alike sets) (IsLikeness-alike sets) n k (subst (λ l. k < length l) (classes-firsts sets n) lt)
-
-pub class_of-least : (sets : List (ℕ → Bool)) (n c : ℕ) → c < n → get_or (classes sets n) (class_of sets n c) 0 ≤ c
-class_of-least sets n c lt =
-    rw (class_of-place sets n c, classes-firsts sets n) (number-least (alike sets) (IsLikeness-alike sets) n c lt)
 
 -- More sets have at least as many letters.
 pub classes-more : (sets : List (ℕ → Bool)) (s : ℕ → Bool) (n : ℕ) → length (classes sets n) ≤ length (classes (sets ++ s ∷ []) n)
@@ -140,8 +131,8 @@ pair_tells a b true false = grind (arith, nat_tests)
 pair_tells a b false true = grind (arith, nat_tests)
 pair_tells a b false false = grind (arith, nat_tests)
 
-pub TellsApart-none : (n : ℕ) → 0 < n → (stretches : List (ℕ × ℕ)) (least : List ℕ) → stretches ≡ (0, 0) ∷ [] → least ≡ 0 ∷ [] → TellsApart stretches least [] n
-TellsApart-none n some stretches least s_is l_is =
+pub NumbersLetters-none : (n : ℕ) → 0 < n → (stretches : List (ℕ × ℕ)) (least : List ℕ) → stretches ≡ (0, 0) ∷ [] → least ≡ 0 ∷ [] → NumbersLetters stretches least [] n
+NumbersLetters-none n some stretches least s_is l_is =
     let more : 0 + suc (n - 1) ≡ n = omega arith in
     let all : firsts (alike []) n ≡ 0 ∷ [] =
     ap (firsts (alike [])) (sym more)
@@ -161,7 +152,7 @@ TellsApart-none n some stretches least s_is l_is =
     }
 
 -- The combined values of the numbers and one more set tell codes apart exactly as the sets together with that one do.
-pub values_tell : (sets : List (ℕ → Bool)) (s : List (ℕ × ℕ)) (n : ℕ) (stretches : List (ℕ × ℕ)) (least : List ℕ) → TellsApart stretches least sets n
+pub values_tell : (sets : List (ℕ → Bool)) (s : List (ℕ × ℕ)) (n : ℕ) (stretches : List (ℕ × ℕ)) (least : List ℕ) → NumbersLetters stretches least sets n
     → (c d : ℕ) → c < n → d < n → same_value (value_in stretches s) c d ≡ alike (sets ++ has s ∷ []) c d
 values_tell sets s n stretches least t c d hc hd =
     ap₂ (λ x y. x == y)
@@ -171,9 +162,9 @@ values_tell sets s n stretches least t c d hc hd =
     ∙ ap (λ b. b && beq (has s c) (has s d)) (number-tells sets n c d hc hd)
     ∙ sym (alike-push sets (has s) c d)
 
-pub TellsApart-more : (sets : List (ℕ → Bool)) (s : List (ℕ × ℕ)) (n : ℕ) (stretches stretches' : List (ℕ × ℕ)) (least least' : List ℕ) → TellsApart stretches least sets n
-    → IsNumbered (value_in stretches s) n stretches' least' → TellsApart stretches' least' (sets ++ has s ∷ []) n
-TellsApart-more sets s n stretches stretches' least least' t h =
+pub NumbersLetters-more : (sets : List (ℕ → Bool)) (s : List (ℕ × ℕ)) (n : ℕ) (stretches stretches' : List (ℕ × ℕ)) (least least' : List ℕ) → NumbersLetters stretches least sets n
+    → IsNumbered (value_in stretches s) n stretches' least' → NumbersLetters stretches' least' (sets ++ has s ∷ []) n
+NumbersLetters-more sets s n stretches stretches' least least' t h =
     let more = sets ++ has s ∷ [] in
     let tell = values_tell sets s n stretches least t in
     let same = firsts-congr (same_value (value_in stretches s)) (alike more) n tell in
@@ -189,14 +180,14 @@ TellsApart-more sets s n stretches stretches' least least' t h =
     }
 
 -- Too many values mean too many letters.
-pub values_many : (sets : List (ℕ → Bool)) (s : List (ℕ × ℕ)) (n : ℕ) (stretches : List (ℕ × ℕ)) (least : List ℕ) → TellsApart stretches least sets n
+pub values_many : (sets : List (ℕ → Bool)) (s : List (ℕ × ℕ)) (n : ℕ) (stretches : List (ℕ × ℕ)) (least : List ℕ) → NumbersLetters stretches least sets n
     → MOST_LETTERS < length (firsts (same_value (value_in stretches s)) n) → MOST_LETTERS < length (classes (sets ++ has s ∷ []) n)
 values_many sets s n stretches least t many =
     let same = firsts-congr (same_value (value_in stretches s)) (alike (sets ++ has s ∷ [])) n (values_tell sets s n stretches least t) in
     omega (arith, ap length same, ap length (classes-firsts (sets ++ has s ∷ []) n))
 
 -- The finished table.
-pub IsLetters-from : (sets : List (ℕ → Bool)) (n : ℕ) (t : LetterTable) (least : List ℕ) → TellsApart t.stretches least sets n → t.codes ≡ n → 126 < n → length t.samples ≡ length least
+pub IsLetters-from : (sets : List (ℕ → Bool)) (n : ℕ) (t : LetterTable) (least : List ℕ) → NumbersLetters t.stretches least sets n → t.codes ≡ n → 126 < n → length t.samples ≡ length least
     → ((k : ℕ) → k < length least → IsPreferred t.stretches 32 k (get_or least k 0) (get_or t.samples k 0)) → IsLetters t sets n
 unfolding letter_at
 IsLetters-from sets n t least h codes plain_in len prefer =
@@ -231,28 +222,3 @@ IsLetters-from sets n t least h codes plain_in len prefer =
                 }
           ];
     }
-
--- Preferring one more printable code.
-pub IsPreferred-more : (stretches : List (ℕ × ℕ)) (code k first old new : ℕ) → code ≤ 126 → IsPreferred stretches (code + 1) k first old
-    → (k ≡ letter_from 0 stretches code → new ≡ code) → ((k ≡ letter_from 0 stretches code → ⊥) → new ≡ old) → IsPreferred stretches code k first new
-IsPreferred-more stretches code k first old new le was here there = elim (cases_eq k (letter_from 0 stretches code)) [
-  | inl same ↦ rw (here same) (inl (le_refl _, le, sym same, λ d low lt is. absurd (omega arith)))
-  | inr other ↦ rw (there other) (elim was [
-    | inl p ↦ inl (
-      omega (arith, p.0),
-      p.1,
-      p.2,
-      λ d low lt is. elim (cases_eq code d) [
-        | inl at ↦ other (sym is ∙ ap (letter_from 0 stretches) (sym at))
-        | inr later ↦ p.3 d (omega arith) lt is
-      ],
-    )
-    | inr p ↦ inr (
-      p.0,
-      λ d low high is. elim (cases_eq code d) [
-        | inl at ↦ other (sym is ∙ ap (letter_from 0 stretches) (sym at))
-        | inr later ↦ p.1 d (omega arith) high is
-      ],
-    )
-  ])
-]

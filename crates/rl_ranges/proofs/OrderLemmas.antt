@@ -9,7 +9,7 @@ use Rattle.rl_ranges.proofs.LetterLemmas.{alike-append, alike-push, classes-appe
 use Rattle.rl_ranges.specs.Codes.{has}
 use Rattle.rl_ranges.specs.Letters.{alike, classes, place_where}
 use Rattle.rl_ranges.specs.Numbering.{firsts}
-use Rattle.rl_ranges.specs.internal.Splitting.{HasTooMany, TellsApart, TellsMore}
+use Rattle.rl_ranges.specs.internal.Splitting.{HasTooMany, NumbersLetters, RefinesLetters}
 use Rattle.rl_ranges.specs.declared.letters.TheConstants.{MOST_LETTERS}
 use Rattle.rl_ranges.specs.internal.Order.{is_taken, picked}
 use Rattle.rl_ranges.specs.declared.letters.Pass.TheVariants.{Middle, Narrow, Wide}
@@ -49,8 +49,8 @@ alike-order (s ∷ sets) c d =
     step xs ys zs false false = apart xs (has s ∷ ys) zs ∙ second_to_front (alike xs c d) (alike ys c d) (alike zs c d) (beq (has s c) (has s d))
     step xs ys zs false true = apart xs ys (has s ∷ zs) ∙ swap (alike xs c d && alike ys c d) (beq (has s c) (has s d)) (alike zs c d)
 
-pub TellsApart-congr : (xs ys : List (ℕ → Bool)) (n : ℕ) (stretches : List (ℕ × ℕ)) (least : List ℕ) → ((c d : ℕ) → alike xs c d ≡ alike ys c d) → TellsApart stretches least xs n → TellsApart stretches least ys n
-TellsApart-congr xs ys n stretches least e t =
+pub NumbersLetters-congr : (xs ys : List (ℕ → Bool)) (n : ℕ) (stretches : List (ℕ × ℕ)) (least : List ℕ) → ((c d : ℕ) → alike xs c d ≡ alike ys c d) → NumbersLetters stretches least xs n → NumbersLetters stretches least ys n
+NumbersLetters-congr xs ys n stretches least e t =
     let same : firsts (alike xs) n ≡ firsts (alike ys) n = firsts-congr (alike xs) (alike ys) n (λ c d hc hd. e c d) in
     record {
       covers = t.covers;
@@ -124,25 +124,25 @@ alike-known xs s c d h = alike-push xs s c d ∙ step (alike xs c d) (beq (s c) 
     step false b h = refl
 
 pub tells-known : (more : List (ℕ → Bool)) (s : ℕ → Bool) (n : ℕ) (a b : List (ℕ × ℕ)) (j k : List ℕ) → ((c d : ℕ) → alike more c d ≡ true → beq (s c) (s d) ≡ true)
-    → TellsMore a j b k more n → TellsMore a j b k (more ++ s ∷ []) n
+    → RefinesLetters a j b k more n → RefinesLetters a j b k (more ++ s ∷ []) n
 tells-known more s n a b j k splits told sets t =
     let known : (c d : ℕ) → alike (sets ++ more) c d ≡ alike ((sets ++ more) ++ s ∷ []) c d =
     λ c d. sym (alike-known (sets ++ more) s c d (λ h. splits c d (and_parts (alike sets c d) (alike more c d) (sym (alike-append sets more c d) ∙ h)).1)) in
-    subst (λ x. TellsApart b k x n) (append_assoc sets more (s ∷ [])) (TellsApart-congr (sets ++ more) ((sets ++ more) ++ s ∷ []) n b k known (told sets t))
+    subst (λ x. NumbersLetters b k x n) (append_assoc sets more (s ∷ [])) (NumbersLetters-congr (sets ++ more) ((sets ++ more) ++ s ∷ []) n b k known (told sets t))
 
 -- No more sets.
-pub tells-none : (n : ℕ) (a : List (ℕ × ℕ)) (j : List ℕ) → TellsMore a j a j [] n
-tells-none n a j sets t = subst (λ x. TellsApart a j x n) (sym (append-none sets)) t
+pub tells-none : (n : ℕ) (a : List (ℕ × ℕ)) (j : List ℕ) → RefinesLetters a j a j [] n
+tells-none n a j sets t = subst (λ x. NumbersLetters a j x n) (sym (append-none sets)) t
   where
     append-none : (l : List (ℕ → Bool)) → l ++ [] ≡ l
     append-none [] = refl
     append-none (x ∷ l) = ap (λ z. x ∷ z) (append-none l)
 
 -- A numbering that is refined twice.
-pub tells-more : (more most : List (ℕ → Bool)) (n : ℕ) (a b c : List (ℕ × ℕ)) (j k l : List ℕ) → TellsMore a j b k more n → TellsMore b k c l most n → TellsMore a j c l (more ++ most) n
-tells-more more most n a b c j k l one two sets t = subst (λ x. TellsApart c l x n) (append_assoc sets more most) (two (sets ++ more) (one sets t))
+pub tells-more : (more most : List (ℕ → Bool)) (n : ℕ) (a b c : List (ℕ × ℕ)) (j k l : List ℕ) → RefinesLetters a j b k more n → RefinesLetters b k c l most n → RefinesLetters a j c l (more ++ most) n
+tells-more more most n a b c j k l one two sets t = subst (λ x. NumbersLetters c l x n) (append_assoc sets more most) (two (sets ++ more) (one sets t))
 
-pub many-later : (more most : List (ℕ → Bool)) (n : ℕ) (a b : List (ℕ × ℕ)) (j k : List ℕ) → TellsMore a j b k more n → HasTooMany b k most n → HasTooMany a j (more ++ most) n
+pub many-later : (more most : List (ℕ → Bool)) (n : ℕ) (a b : List (ℕ × ℕ)) (j k : List ℕ) → RefinesLetters a j b k more n → HasTooMany b k most n → HasTooMany a j (more ++ most) n
 many-later more most n a b j k one two sets t = subst (λ x. MOST_LETTERS < length (classes x n)) (append_assoc sets more most) (two (sets ++ more) (one sets t))
 
 -- Still more sets have no fewer letters.

@@ -1,5 +1,5 @@
 -- What a list of ranges holds, and what it means for the list to be sorted.
-use Rattle.std.proofs.Common.{Bool, List, [], add-one, ap, ap₂, arith, drop, false, get_or, inl, inr, le_of_suc-le-suc, le_refl, le_trans, length, ltb, max, min, not, not-suc-le-zero, refl, set, subst, suc, suc-le-suc, sym, take, true, zero, zero-lt-suc, ℕ, ◌&&◌, ◌++◌, ◌+◌, ◌-◌, ◌<◌, ◌||◌, ◌∙◌, ◌∷◌, ◌≡◌, ◌≤◌, ◌⊎◌}
+use Rattle.std.proofs.Common.{Bool, List, [], add-one, ap, ap₂, arith, drop, false, get_or, inl, inr, le_of_suc-le-suc, le_refl, length, ltb, max, min, not, not-suc-le-zero, refl, set, subst, suc, suc-le-suc, sym, take, true, zero, zero-lt-suc, ℕ, ◌&&◌, ◌++◌, ◌+◌, ◌-◌, ◌<◌, ◌||◌, ◌∙◌, ◌∷◌, ◌≡◌, ◌≤◌, ◌⊎◌}
 use Rattle.std.proofs.lemmas.Bool.{cases_lt, or_from, or_left, or_right}
 use Rattle.std.proofs.lemmas.Bool.Decides.{nat_tests}
 use Rattle.std.proofs.lemmas.List.{drop_more, length-set, take_all, take_more, take_more_set}
@@ -58,10 +58,6 @@ pub has-below : (n : ℕ) (rs : List (ℕ × ℕ)) (c : ℕ) → Above n rs → 
 has-below n [] c h lt = has-nil c
 has-below n (r ∷ rs) c h lt =
     has-cons r rs c ∙ ap₂ ◌||◌ (within-below r.0 r.1 c (omega (arith, h.0))) (has-below (r.1 + 2) rs c h.2 (omega (arith, h.0, h.1)))
-
-pub Above-lower : (m n : ℕ) (rs : List (ℕ × ℕ)) → m ≤ n → Above n rs → Above m rs
-Above-lower m n [] le h = tt
-Above-lower m n (r ∷ rs) le h = (le_trans le h.0, h.1, h.2)
 
 -- Where the next range may begin.
 unfoldable pub free_from : ℕ → List (ℕ × ℕ) → ℕ

@@ -9,7 +9,7 @@ use Rattle.rl_ranges.specs.Building.{range_at}
 use Rattle.rl_ranges.specs.Codes.{Above, has}
 use Rattle.rl_ranges.specs.Numbering.{Covers, IsNumbered, ValuesBelow, firsts, same_value}
 use Rattle.rl_ranges.specs.declared.letters.TheConstants.{MOST_LETTERS}
-use Rattle.rl_ranges.specs.internal.Splitting.{ArePassed, HasNumber, start_or, value_in}
+use Rattle.rl_ranges.specs.internal.Splitting.{IsFirstReaching, HasNumber, start_or, value_in}
 
 -- The value has its number from now on, and no other value's number changes.
 number_own : (o : Option ℕ) (n v code : ℕ) (known known' : List (Option ℕ)) (least least' : List ℕ) → v < length known → o ≡ get_or known v None
@@ -27,7 +27,7 @@ in_range : (s : List (ℕ × ℕ)) (p x : ℕ) → p < length s → (range_at s 
 in_range s p x lt low high = has-at s p x lt (within-true (range_at s p).0 (range_at s p).1 x low high)
 
 -- The codes before the next range. There may be no next range.
-in_front : (s : List (ℕ × ℕ)) (p at x count : ℕ) → Above 0 s → ArePassed s p at → at ≤ x → x < start_or s p count → has s x ≡ false
+in_front : (s : List (ℕ × ℕ)) (p at x count : ℕ) → Above 0 s → IsFirstReaching s p at → at ≤ x → x < start_or s p count → has s x ≡ false
 in_front s p at x count sorted h low high = has-outside s x (λ k k_in. elim (cases_lt k p) [
   | inl less ↦ inr (omega (arith, h.before k less k_in))
   | inr more ↦
@@ -40,7 +40,7 @@ in_front s p at x count sorted h low high = has-outside s x (λ k k_in. elim (ca
 ])
 
 -- The ranges that have been passed once the next one, or a part of it, has been.
-passed_one : (s : List (ℕ × ℕ)) (p at : ℕ) → Above 0 s → ArePassed s p at → p < length s → ArePassed s (p + 1) ((range_at s p).1 + 1)
+passed_one : (s : List (ℕ × ℕ)) (p at : ℕ) → Above 0 s → IsFirstReaching s p at → p < length s → IsFirstReaching s (p + 1) ((range_at s p).1 + 1)
 passed_one s p at sorted h p_in = record {
   before = λ k lt k_in. elim (cases_lt k p) [
     | inl less ↦ omega (arith, h.before k less k_in, h.unpassed p_in)
@@ -49,11 +49,11 @@ passed_one s p at sorted h p_in = record {
   unpassed = λ next_in. omega (arith, Above-gap 0 s p (p + 1) sorted (omega arith) next_in, Above-at 0 s (p + 1) sorted next_in);
 }
 
-passed_later : (s : List (ℕ × ℕ)) (p at next : ℕ) → ArePassed s p at → at ≤ next → (p < length s → next ≤ (range_at s p).1) → ArePassed s p next
+passed_later : (s : List (ℕ × ℕ)) (p at next : ℕ) → IsFirstReaching s p at → at ≤ next → (p < length s → next ≤ (range_at s p).1) → IsFirstReaching s p next
 passed_later s p at next h le in_it = record { before = λ k lt k_in. omega (arith, h.before k lt k_in); unpassed = in_it }
 
 -- The next range doesn't end before it begins.
-passed_front : (s : List (ℕ × ℕ)) (p at next count : ℕ) → Above 0 s → ArePassed s p at → at ≤ next → next ≤ start_or s p count → ArePassed s p next
+passed_front : (s : List (ℕ × ℕ)) (p at next count : ℕ) → Above 0 s → IsFirstReaching s p at → at ≤ next → next ≤ start_or s p count → IsFirstReaching s p next
 passed_front s p at next count sorted h le front =
     passed_later s p at next h le (λ p_in. omega (arith, start_or-in s p count p_in, Above-at 0 s p sorted p_in))
 
@@ -99,7 +99,7 @@ range_next s k end count lt le = elim (cases_lt k (length s)) [
 pub record InRun (left held : List (ℕ × ℕ)) (values start end v range at : ℕ) (outside inside : Option ℕ) (numbers : List (Option ℕ)) (stretches : List (ℕ × ℕ)) (least : List ℕ) : Type 0 where
   pub low : start ≤ at
   pub high : at ≤ end
-  pub passed : ArePassed held range at
+  pub passed : IsFirstReaching held range at
   pub progress : Progress (value_in left held) values at numbers stretches least
   pub outside_is : outside ≡ get_or numbers v None
   pub inside_is : inside ≡ get_or numbers (v + 1) None
@@ -154,7 +154,7 @@ outside_run left held count values place start end v range at next n outside ins
 -- One more run in a range, which has been passed then or not.
 inside_run : (left held : List (ℕ × ℕ)) (count values place start end v range range' at next n : ℕ) (outside inside : Option ℕ) (numbers numbers' : List (Option ℕ)) (stretches stretches' : List (ℕ × ℕ)) (least least' : List ℕ)
     → InPlace left held count values place start end v → InRun left held values start end v range at outside inside numbers stretches least
-    → range < length held → (range_at held range).0 ≤ at → at < next → next ≤ end → next ≤ (range_at held range).1 + 1 → ArePassed held range' next
+    → range < length held → (range_at held range).0 ≤ at → at < next → next ≤ end → next ≤ (range_at held range).1 + 1 → IsFirstReaching held range' next
     → HasNumber (get_or numbers (v + 1) None) n numbers numbers' least least' (v + 1) at → stretches' ≡ stretches ++ (at, n) ∷ []
     → InRun left held values start end v range' next outside (Some n) numbers' stretches' least'
 inside_run left held count values place start end v range range' at next n outside inside numbers numbers' stretches stretches' least least' h r range_in begun some ends within passed has_it pushed =
@@ -187,7 +187,7 @@ inside_full left held count values place start end v range at outside inside num
 
 -- The stretches before `place` have been numbered, and there is room for the runs of the others.
 pub record InStretches (left held : List (ℕ × ℕ)) (count values place range : ℕ) (numbers : List (Option ℕ)) (stretches : List (ℕ × ℕ)) (least : List ℕ) (room : ℕ) : Type 0 where
-  pub passed : ArePassed held range (start_or left place count)
+  pub passed : IsFirstReaching held range (start_or left place count)
   pub short : (range < length held → start_or left place count ≤ (range_at held range).0) → length stretches ≤ place + 2 * range
   pub short_begun : length stretches ≤ place + 2 * range + 1
   pub range_in : range ≤ length held
@@ -235,7 +235,7 @@ stretches_none left held count values numbers stretches least room covers number
     let start : start_or left 0 count ≡ 0 = start_or-in left 0 count covers.some ∙ covers.start in
     let none = ap length stretches_are in
     record {
-      passed = subst (λ a. ArePassed held 0 a) (sym start) (record { before = λ k lt k_in. absurd (omega arith); unpassed = λ _. omega arith });
+      passed = subst (λ a. IsFirstReaching held 0 a) (sym start) (record { before = λ k lt k_in. absurd (omega arith); unpassed = λ _. omega arith });
       short = λ _. omega arith;
       short_begun = omega arith;
       range_in = omega arith;
@@ -254,7 +254,7 @@ stretch_begun {left} {held} {count} {values} {place} {start} {end} {v} {range} {
       run = record {
         low = le_refl start;
         high = omega (arith, (end_in left held count values place start end v h).0);
-        passed = subst (λ a. ArePassed held range a) here was.passed;
+        passed = subst (λ a. IsFirstReaching held range a) here was.passed;
         progress = subst (λ a. Progress (value_in left held) values a numbers stretches least) here was.progress;
         outside_is = outside_is ∙ get_or_default numbers v d None (omega (arith, h.values_in, was.progress.width));
         inside_is = inside_is ∙ get_or_default numbers (v + 1) e None (omega (arith, h.values_in, was.progress.width));
@@ -350,7 +350,7 @@ rest_numbered {left} {held} {count} {values} {place} {start} {end} {v} {range} {
     let short : length stretches' ≤ place + 1 + 2 * range =
     omega (arith, was.short (λ r_in. omega (arith, start_or-in held range count r_in)), ap length pushed, length_push stretches (at, n)) in
     record {
-      passed = subst (λ a. ArePassed held range a) was.here.end_is r.passed;
+      passed = subst (λ a. IsFirstReaching held range a) was.here.end_is r.passed;
       short = λ _. short;
       short_begun = omega arith;
       range_in = was.range_in;
@@ -384,7 +384,7 @@ pub rest_none : {left held : List (ℕ × ℕ)} {count values place start end v 
 rest_none {left} {held} {count} {values} {place} {start} {end} {v} {range} {at} {outside} {inside} {numbers} {stretches} {least} {room} was none =
     let is : at ≡ start_or left (place + 1) count = omega (arith, was.run.high, was.here.end_is) in
     record {
-      passed = subst (λ a. ArePassed held range a) is was.run.passed;
+      passed = subst (λ a. IsFirstReaching held range a) is was.run.passed;
       short = λ before. omega (arith, was.short (λ r_in. subst (λ a. a ≤ (range_at held range).0) (sym is) (before r_in)));
       short_begun = omega (arith, was.short_after);
       range_in = was.range_in;

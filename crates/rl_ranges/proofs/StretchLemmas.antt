@@ -1,7 +1,7 @@
 -- The value of a code in a list of stretches.
-use Rattle.std.proofs.Common.{List, [], ap, arith, inl, inr, le_of_suc-le-suc, length, nat_le, not-suc-le-zero, refl, suc, suc-le-suc, take, zero, zero-lt-suc, ℕ, ◌++◌, ◌+◌, ◌-◌, ◌<◌, ◌∙◌, ◌∷◌, ◌≡◌, ◌≤◌}
+use Rattle.std.proofs.Common.{List, [], ap, arith, inl, inr, le_of_suc-le-suc, length, nat_le, not-suc-le-zero, refl, suc, suc-le-suc, zero, zero-lt-suc, ℕ, ◌++◌, ◌+◌, ◌-◌, ◌<◌, ◌∙◌, ◌∷◌, ◌≡◌, ◌≤◌}
 use Rattle.std.proofs.lemmas.Bool.{cases_lt, le-leb, lt-leb}
-use Rattle.std.proofs.lemmas.List.{get_or_append_left, get_or_at, length_push, take_more}
+use Rattle.std.proofs.lemmas.List.{get_or_append_left, get_or_at, length_push}
 use Rattle.std.specs.Prelude.{if◌then◌else◌}
 use Rattle.rl_ranges.specs.Building.{range_at}
 use Rattle.rl_ranges.specs.Letters.{letter_from}
@@ -13,9 +13,6 @@ letter_from-append a (x ∷ xs) ys c = letter_from-append (if nat_le x.0 c then 
 
 pub letter_from-push : (a : ℕ) (xs : List (ℕ × ℕ)) (s : ℕ × ℕ) (c : ℕ) → letter_from a (xs ++ s ∷ []) c ≡ (if nat_le s.0 c then s.1 else letter_from a xs c)
 letter_from-push a xs s c = letter_from-append a xs (s ∷ []) c
-
-pub letter_from-more : (a : ℕ) (xs : List (ℕ × ℕ)) (i c : ℕ) → i < length xs → letter_from a (take (i + 1) xs) c ≡ (if nat_le (range_at xs i).0 c then (range_at xs i).1 else letter_from a (take i xs) c)
-letter_from-more a xs i c lt = ap (λ l. letter_from a l c) (take_more xs i (0, 0) lt) ∙ letter_from-push a (take i xs) (range_at xs i) c
 
 -- No stretch has begun yet.
 pub letter_from-late : (a : ℕ) (xs : List (ℕ × ℕ)) (c : ℕ) → ((k : ℕ) → k < length xs → c < (range_at xs k).0) → letter_from a xs c ≡ a

@@ -9,6 +9,6 @@ abbrev pub code_count : Universe → ℕ
 code_count Str = 1114112
 code_count Bytes = 256
 
--- The list is a text of the universe: all its codes belong to the universe.
+-- Holds if the list is a text of the universe: all its codes belong to the universe.
 abbrev pub IsText : Universe → List ℕ → Type 0
 IsText universe codes = All (λ c. c < code_count universe) codes

@@ -88,8 +88,8 @@ fn ranges_of(alloc: Global, codes: &[u32]) -> Result<Vec<(u32, u32)>, OutOfMemor
     Ok(ranges)
 }
 
-/// Returns the codes that the tables of case pair with a code of the ranges: the ASCII table if `ascii` is set, otherwise
-/// those of Unicode.
+/// Returns the ranges of the codes that the tables of case pair with a code of `ranges`: the ASCII table if `ascii` is set,
+/// otherwise those of Unicode. Except by way of such a pair, the codes of `ranges` themselves aren't among them.
 ///
 /// # Errors
 /// [`OutOfMemory`] if there is no memory for the ranges.

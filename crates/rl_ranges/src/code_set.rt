@@ -1,4 +1,5 @@
-//! Sets of codes, kept as sorted ranges.
+//! Sets of codes, kept as sorted ranges. A code is a code point of a `str` or a byte of a `bytes` object. The universe, `str`
+//! or `bytes`, says which codes there are; a set lies in it if it holds only these.
 
 ghost use Rattle.std.specs.Prelude.{◌≡◌, ℕ, ◌≤◌, ◌<◌, ◌&&◌, ◌||◌, not, true, false, nat_lt, List, [], IfOk, IfSome, MatchOption, IsTrue};
 ghost use Rattle.rl_ranges.specs.Text.{code_count};
@@ -18,7 +19,9 @@ use std::marker::Model;
 /// A set of codes, kept as a sorted list of ranges that neither overlap nor touch. Contracts see it as that list.
 #[derive(Drop)]
 pub struct CodeSet {
+    /// The allocator that new sets use.
     alloc: Global,
+    /// The first and the last code of each range, in ascending order.
     ranges: RangeList,
 }
 
@@ -57,10 +60,8 @@ impl CodeSet {
         Ok(CodeSet { alloc, ranges })
     }
 
-    /// Returns the set of the codes from `first` to `last`.
-    ///
-    /// # Errors
-    /// [`OutOfMemory`] if there is no memory for the range.
+    /// Returns the set of the codes from `first` to `last`, both included. `first` must not be greater than `last`, and `last`
+    /// must not be greater than 0x10FFFF. Allocates no memory, and the result is always `Ok`.
     pub fn range(alloc: Global, first: u32, last: u32) -> Result<CodeSet, OutOfMemory>
         requires filled { first ≤ last }
         requires inside { last ≤ 0x10_FFFF }
@@ -71,10 +72,11 @@ impl CodeSet {
         Ok(CodeSet { alloc, ranges })
     }
 
-    /// Returns the union: the codes that at least one of the two sets holds.
+    /// Returns the union: the codes that at least one of the two sets holds. If one of them is empty, this is a copy of the
+    /// other.
     ///
     /// # Errors
-    /// [`OutOfMemory`] if there is no memory for the set.
+    /// [`OutOfMemory`] if there is no memory for the set, or if there are too many copies of the set that would be copied.
     pub fn union(&self, other: &CodeSet) -> Result<CodeSet, OutOfMemory>
         ensures members { IfOk result (λ s. (c : ℕ) → has s c ≡ (has self.now c || has other.now c)) }
         ensures inside { IfOk result (λ s. (u : Universe)
@@ -126,7 +128,7 @@ impl CodeSet {
         CodeSet::from_ranges(self.alloc, ranges)
     }
 
-    /// Returns the complement: the codes of the universe that the set doesn't hold.
+    /// Returns the complement: the codes of the universe that the set doesn't hold. The set must lie in the universe.
     ///
     /// # Errors
     /// [`OutOfMemory`] if there is no memory for the set.
@@ -140,10 +142,8 @@ impl CodeSet {
         CodeSet::from_ranges(self.alloc, ranges)
     }
 
-    /// Returns a named class. It follows ASCII under the flag ASCII and for `bytes`, and Unicode otherwise.
-    ///
-    /// # Errors
-    /// [`OutOfMemory`] if there is no memory for the set.
+    /// Returns a named class. It follows ASCII if `ascii` is set or the universe is that of `bytes`, and Unicode otherwise.
+    /// Allocates no memory, and the result is always `Ok`.
     pub fn named(
         alloc: Global,
         kind: Named,
@@ -158,8 +158,8 @@ impl CodeSet {
         Ok(CodeSet { alloc, ranges })
     }
 
-    /// Returns the set of all codes that IGNORECASE treats as equal to a code of this set. Case follows ASCII under the
-    /// flag ASCII and for `bytes`, and Unicode otherwise.
+    /// Returns the set of all codes that IGNORECASE treats as equal to a code of this set, including its own. Case follows
+    /// ASCII if `ascii` is set or the universe is that of `bytes`, and Unicode otherwise. The set must lie in the universe.
     ///
     /// # Errors
     /// [`OutOfMemory`] if there is no memory for the set.
@@ -205,7 +205,7 @@ impl CodeSet {
         self.ranges.as_slice()
     }
 
-    /// Whether the set holds the code.
+    /// Returns whether the set holds the code.
     pub fn contains(&self, code: u32) -> bool
         ensures { result ≡ has self.now code }
     {

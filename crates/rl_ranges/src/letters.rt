@@ -1,4 +1,6 @@
-//! The letters of a list of sets. Codes that no set of the list tells apart are one letter.
+//! The letters of a list of sets of codes. Two codes belong to the same letter if every set of the list holds both or neither.
+//! A sample is one code of a letter. A numbering gives codes that are alike the same number. The universe, `str` or `bytes`,
+//! says which codes there are.
 
 ghost use Rattle.std.specs.Prelude.{◌≡◌, ◌<◌, ◌≤◌, ℕ, All, IfOk, IfErr, [], ◌∷◌, length, map, slice_index_or, true};
 ghost use Rattle.rl_ranges.specs.Text.{code_count};
@@ -6,8 +8,8 @@ ghost use Rattle.rl_ranges.specs.Codes.{has, IsInside};
 ghost use Rattle.rl_ranges.specs.Letters.{LetterTable, IsLetters, classes, letter_at};
 ghost use Rattle.rl_ranges.specs.Numbering.{Covers, ValuesBelow, IsTable};
 ghost use Rattle.rl_ranges.specs.declared.letters.TheConstants.{MOST_LETTERS};
-ghost use Rattle.rl_ranges.specs.internal.Splitting.{IsPreferred, TellsMore, HasTooMany};
-ghost use Rattle.rl_ranges.specs.internal.Order.{is_taken, picked, StandsBefore};
+ghost use Rattle.rl_ranges.specs.internal.Splitting.{IsPreferred, RefinesLetters, HasTooMany};
+ghost use Rattle.rl_ranges.specs.internal.Order.{is_taken, picked, OccursBefore};
 
 use crate::code_set::CodeSet;
 use crate::stretches::{Numbering, split, stretch_before, value_at};
@@ -16,10 +18,10 @@ use rl_lists::OutOfMemory;
 use std::alloc::{AllocError, AllocFailed, Global};
 use std::marker::Model;
 
-/// The maximum number of letters. A list of sets that needs more has no [`Letters`].
+/// The maximum number of letters. A list of sets with more letters has no [`Letters`].
 pub const MOST_LETTERS: usize = 128;
 
-/// Says which number the limit is: 128 letters.
+/// Does nothing: its contract states the value of the limit, 128 letters.
 pub fn limits_are()
     ensures letters { MOST_LETTERS ≡ 128 }
 {}
@@ -66,12 +68,15 @@ impl<T: Drop> From<AllocFailed<T>> for LettersError {
     }
 }
 
-/// The letters of a list of sets, or alphabet classes. Two codes belong to the same letter if every set holds both or
-/// neither. Letters are numbered from 0 in the order of their least codes.
+/// The letters (alphabet classes) of a list of sets. Two codes belong to the same letter if every set of the list holds both
+/// or neither. Letters are numbered from 0 in the order of their least codes.
 #[derive(Drop)]
 pub struct Letters {
+    /// The number of codes in the universe.
     codes: u32,
+    /// The first code of each run of codes, and the letter of all codes from there up to the next pair.
     stretches: Vec<(u32, u32)>,
+    /// One code of each letter, at the index of the letter's number.
     samples: Vec<u32>,
 }
 
@@ -87,10 +92,11 @@ impl Model for Letters {
 }
 
 impl Letters {
-    /// Finds the letters of the sets among the codes of the universe.
+    /// Returns the letters of the sets among the codes of the universe. The sets must lie in the universe.
     ///
     /// # Errors
-    /// - [`LettersError::TooMany`] if and only if there are more than [`MOST_LETTERS`] letters.
+    /// - [`LettersError::TooMany`] only if there are more than [`MOST_LETTERS`] letters, in which case there is never a
+    ///   result.
     /// - [`LettersError::OutOfMemory`] if there is no memory for them.
     pub fn of(
         alloc: Global,
@@ -122,14 +128,14 @@ impl Letters {
         })
     }
 
-    /// Returns the number of letters.
+    /// Returns the number of letters, from 1 to [`MOST_LETTERS`].
     pub fn count(&self) -> u32
         ensures { result ≡ length self.now.samples }
     {
         self.samples.len() as u32
     }
 
-    /// Returns the letter that the code belongs to.
+    /// Returns the number of the letter that the code belongs to. The code must be in the universe.
     pub fn letter_of(&self, code: u32) -> u32
         requires { code < self.now.codes }
         ensures value { result ≡ letter_at self.now code }
@@ -138,7 +144,8 @@ impl Letters {
         value_at(&self.stretches, code)
     }
 
-    /// Returns a code that represents the letter: its least code from 0x20 to 0x7E, or its least code if it has none there.
+    /// Returns the sample of the letter with this number, which must be less than [`Letters::count`]. The sample is the
+    /// letter's least code from 0x20 to 0x7E, or its least code if it has none there.
     pub fn sample(&self, letter: u32) -> u32
         requires { letter < length self.now.samples }
         ensures { result ≡ slice_index_or self.now.samples letter 0 }
@@ -188,7 +195,7 @@ fn slot_of(set: &CodeSet) -> usize
 /// Whether `count` isn't 0 and the set before index `count` of the list is equal to `set`.
 fn stands_before(sets: &Vec<CodeSet>, count: usize, set: &CodeSet) -> bool
     requires { count ≤ length sets.now.items }
-    ensures { result ≡ true → StandsBefore sets.now.items count set.now }
+    ensures { result ≡ true → OccursBefore sets.now.items count set.now }
 {
     count > 0 && sets[count - 1].as_ranges() == set.as_ranges()
 }
@@ -197,7 +204,7 @@ fn stands_before(sets: &Vec<CodeSet>, count: usize, set: &CodeSet) -> bool
 /// one of them.
 ///
 /// # Errors
-/// - [`LettersError::TooMany`] if and only if the result has more than [`MOST_LETTERS`] numbers.
+/// - [`LettersError::TooMany`] only if more than [`MOST_LETTERS`] numbers are needed, in which case there is never a result.
 /// - [`LettersError::OutOfMemory`] if there is no memory for it.
 fn refined(
     alloc: Global,
@@ -208,17 +215,18 @@ fn refined(
     requires table { IsTable (code_count universe) known.now.stretches.items known.now.least.items }
     requires inside { IsInside universe set.now }
     ensures table { IfOk result (λ n. IsTable (code_count universe) n.stretches.items n.least.items) }
-    ensures ok { IfOk result (λ n. TellsMore known.now.stretches.items known.now.least.items n.stretches.items n.least.items (has set.now ∷ []) (code_count universe)) }
+    ensures ok { IfOk result (λ n. RefinesLetters known.now.stretches.items known.now.least.items n.stretches.items n.least.items (has set.now ∷ []) (code_count universe)) }
     ensures too_many { IfErr result (λ e. e ≡ LettersError.TooMany
         → HasTooMany known.now.stretches.items known.now.least.items (has set.now ∷ []) (code_count universe)) }
 {
     split(alloc, known, set.as_ranges(), universe.count())
 }
 
-/// Refines a numbering by every set of the list that the pass takes.
+/// Refines a numbering by every set of the list that the pass takes. The result tells two codes apart if `first` does or if
+/// one of these sets holds only one of them.
 ///
 /// # Errors
-/// - [`LettersError::TooMany`] if and only if the result has more than [`MOST_LETTERS`] numbers.
+/// - [`LettersError::TooMany`] only if more than [`MOST_LETTERS`] numbers are needed, in which case there is never a result.
 /// - [`LettersError::OutOfMemory`] if there is no memory for it.
 fn refined_by(
     alloc: Global,
@@ -230,7 +238,7 @@ fn refined_by(
     requires table { IsTable (code_count universe) first.stretches.items first.least.items }
     requires inside { All (IsInside universe) sets.now.items }
     ensures table { IfOk result (λ n. IsTable (code_count universe) n.stretches.items n.least.items) }
-    ensures ok { IfOk result (λ n. TellsMore first.stretches.items first.least.items n.stretches.items n.least.items (picked (is_taken pass) sets.now.items) (code_count universe)) }
+    ensures ok { IfOk result (λ n. RefinesLetters first.stretches.items first.least.items n.stretches.items n.least.items (picked (is_taken pass) sets.now.items) (code_count universe)) }
     ensures too_many { IfErr result (λ e. e ≡ LettersError.TooMany
         → HasTooMany first.stretches.items first.least.items (picked (is_taken pass) sets.now.items) (code_count universe)) }
 {

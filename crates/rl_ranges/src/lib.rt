@@ -10,7 +10,7 @@
 //!
 //! Each operation is the operation on sets, code point by code point. The named classes and the rules of case follow the
 //! definitions, by ASCII or by Unicode. The letters are exactly the classes, numbered by their least code point, and
-//! [`LettersError::TooMany`] is returned if and only if there are more letters than the limit.
+//! [`LettersError::TooMany`] is returned only if there are more letters than the limit.
 //!
 //! # Example
 //!

@@ -19,7 +19,7 @@ pub(crate) enum RangeList {
 }
 
 impl RangeList {
-    /// Creates a list whose copies share the ranges.
+    /// Returns a list of these ranges, whose copies share them.
     ///
     /// # Errors
     /// [`OutOfMemory`] if there is no memory for it.

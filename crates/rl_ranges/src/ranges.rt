@@ -1,4 +1,5 @@
-//! Sorted lists of ranges: how to build one from ranges that come in order, and the set operations on them.
+//! Sorted lists of ranges: how to build one from ranges that come in order, and the set operations on them. A range is a pair:
+//! its first code and its last code.
 
 ghost use Rattle.std.specs.Prelude.{◌≡◌, ℕ, ◌+◌, ◌≤◌, ◌<◌, ◌||◌, ◌&&◌, not, true, nat_lt, OnOk, IfOk, length, drop};
 ghost use Rattle.rl_ranges.specs.Codes.{has, is_between, Above};
@@ -60,7 +61,8 @@ pub(crate) fn append_from(
     Ok(())
 }
 
-/// Whether some range of the sorted list holds the code. Uses binary search.
+/// Returns whether some range of the list holds the code. The ranges must be in ascending order, and they must neither overlap
+/// nor touch. Uses binary search.
 pub(crate) fn holds(ranges: &[(u32, u32)], code: u32) -> bool
     requires { Above 0 ranges.now }
     ensures { result ≡ has ranges.now code }
@@ -81,7 +83,8 @@ pub(crate) fn holds(ranges: &[(u32, u32)], code: u32) -> bool
     false
 }
 
-/// Returns the union: the codes that at least one of the two lists holds.
+/// Returns the union: the codes that at least one of the two lists holds. In each list, every range must have at least one
+/// code, and the ranges must come in the order of their first codes. They may overlap.
 ///
 /// # Errors
 /// [`OutOfMemory`] if there is no memory for the list.
@@ -112,7 +115,8 @@ pub(crate) fn either(
     Ok(ranges)
 }
 
-/// Returns the intersection: the codes that both lists hold.
+/// Returns the intersection: the codes that both lists hold. In each list, the ranges must be in ascending order, and they
+/// must neither overlap nor touch.
 ///
 /// # Errors
 /// [`OutOfMemory`] if there is no memory for the list.
@@ -144,7 +148,8 @@ pub(crate) fn both(
     Ok(ranges)
 }
 
-/// Returns the complement: the codes below `count` that the list doesn't hold.
+/// Returns the complement: the codes below `count` that the list doesn't hold. The ranges of the list must be in ascending
+/// order and must neither overlap nor touch, and all codes that it holds must be below `count`.
 ///
 /// # Errors
 /// [`OutOfMemory`] if there is no memory for the list.

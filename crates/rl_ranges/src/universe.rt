@@ -1,4 +1,4 @@
-//! The codes that a text can contain.
+//! The codes that a text can contain. A code is a code point of a `str` or a byte of a `bytes` object.
 
 ghost use Rattle.std.specs.Prelude.{◌≡◌};
 
@@ -15,7 +15,7 @@ impl Universe {
     ghost use Rattle.rl_ranges.specs.Text.{code_count};
     ghost use Rattle.rl_ranges.specs.Named.{goes_by_ascii};
 
-    /// Returns the number of codes. The codes are the numbers below it.
+    /// Returns the number of codes in the universe. The codes are the numbers below it.
     pub fn count(self) -> u32
         ensures { result ≡ code_count self }
     {
@@ -25,7 +25,8 @@ impl Universe {
         }
     }
 
-    /// Whether named classes and letter case follow ASCII. They do under the flag ASCII and for `bytes`.
+    /// Returns whether named classes and letter case follow ASCII. They do if `ascii`, the flag ASCII, is set, and for
+    /// `bytes`.
     pub(crate) fn goes_by_ascii(self, ascii: bool) -> bool
         ensures { result ≡ goes_by_ascii ascii self }
     {

@@ -1,4 +1,8 @@
--- The names in a report: of calls, kinds, limits and causes.
+-- The names in a report: of kinds, limits and causes. An entry is one result of a report: for a call of `re` whose pattern is
+-- a literal, for a source that can't be cut into tokens, or for a path without a source. Its outcome is a verdict, the cause
+-- of a refusal, or what is wrong with the path. A verdict says how the cost of matching a pattern grows with the length of the
+-- text: with a degree, exponentially, or `undecided`, because a limit was exceeded. A live pair, whose number one of the
+-- limits bounds, is a state of the pattern's automaton with the set of states that were tried before it.
 use Rattle.std.specs.Prelude.{ℕ, List, Option, Some, None, codes}
 use Rattle.rl_pattern.specs.declared.parsing.PatError.{PatError}
 use Rattle.rl_pattern.specs.declared.parsing.PatError.TheVariants as pattern_error
@@ -21,7 +25,7 @@ use Rattle.rl_report.specs.declared.report.Outcome.TheVariants as outcome
 abbrev pub Text : Type 0
 Text = List ℕ
 
--- The name of a feature that keeps a pattern from being judged.
+-- The name, as reports show it, of a feature because of which a pattern isn't judged.
 abbrev pub feature_name : Feature → Text
 feature_name feature.Locale = codes "locale"
 feature_name feature.FlagClash = codes "flag-clash"
@@ -38,7 +42,7 @@ feature_name feature.Atomic = codes "atomic"
 feature_name feature.NamedEscape = codes "named-escape"
 feature_name feature.InnerAnchor = codes "inner-anchor"
 
--- The name of a limit.
+-- The name of a limit, as reports show it.
 abbrev pub limit_name : Limit → Text
 limit_name limit.Size = codes "size"
 limit_name limit.Letters = codes "letters"
@@ -46,7 +50,9 @@ limit_name limit.Moves = codes "moves"
 limit_name limit.Sets = codes "sets"
 limit_name limit.Pairs = codes "pairs"
 
--- The number of a limit. The limit of live pairs is a setting.
+-- The greatest number that a limit allows: of nodes of the tree (`Size`), of letters, which are classes of characters that the
+-- pattern doesn't distinguish (`Letters`), of moves from one state on one letter (`Moves`), of counted sets (`Sets`), or of
+-- live pairs (`Pairs`), for which it is the setting `max_pairs`.
 abbrev pub limit_number : ℕ → Limit → ℕ
 limit_number max_pairs limit.Size = MOST_NODES
 limit_number max_pairs limit.Letters = MOST_LETTERS
@@ -64,7 +70,7 @@ lexing_cause lex_error.FileTooLong = codes "file-too-long"
 lexing_cause (lex_error.StrayCode p) = codes "stray-code"
 lexing_cause lex_error.OutOfMemory = codes "out-of-memory"
 
--- The name of the reason why literals have no value.
+-- The name of the reason why a call's string literals have no value. Running out of memory has a name, but no report shows it.
 abbrev pub literal_cause : StrError → Text
 literal_cause str_error.FString = codes "f-string"
 literal_cause str_error.Mixed = codes "mixed"
@@ -73,7 +79,8 @@ literal_cause (str_error.NamedEscape p) = codes "named-escape"
 literal_cause (str_error.NotAscii p) = codes "not-ascii"
 literal_cause str_error.OutOfMemory = codes "out-of-memory"
 
--- The name of the reason why a pattern can't be judged.
+-- The name of the reason why a pattern can't be judged: `syntax`, `too-deep`, `too-long`, or the name of the feature that
+-- isn't judged. Running out of memory has a name, but no report shows it.
 abbrev pub pattern_cause : PatError → Text
 pattern_cause (pattern_error.Syntax n) = codes "syntax"
 pattern_cause (pattern_error.TooDeep p) = codes "too-deep"
@@ -81,7 +88,7 @@ pattern_cause pattern_error.TooLong = codes "too-long"
 pattern_cause (pattern_error.Outside p what) = feature_name what
 pattern_cause pattern_error.OutOfMemory = codes "out-of-memory"
 
--- The name of the cause of a refusal, if the outcome is one.
+-- The name of the cause of a refusal, or none for any other outcome: a verdict, or a path without a source.
 abbrev pub cause_name : Outcome → Option Text
 cause_name (outcome.Source e) = Some (lexing_cause e)
 cause_name outcome.NotWhole = Some (codes "not-whole")
@@ -90,13 +97,14 @@ cause_name outcome.FlagsUnknown = Some (codes "flags-unknown")
 cause_name (outcome.Pattern e) = Some (pattern_cause e)
 cause_name _ = None
 
--- The name of a verdict's kind.
+-- The name of a verdict's kind: `degree`, `exponential` or `undecided`.
 abbrev pub verdict_kind : Verdict → Text
 verdict_kind (Degree d family) = codes "degree"
 verdict_kind (Expo family) = codes "exponential"
 verdict_kind (Undecided l) = codes "undecided"
 
--- The name of an outcome's kind.
+-- The name of an outcome's kind: `degree`, `exponential` or `undecided` if it has a verdict; `unreadable`, `too-deep-folder`
+-- or `not-plain` for a path without a source; otherwise `refused`.
 abbrev pub kind_name : Outcome → Text
 kind_name outcome.Unreadable = codes "unreadable"
 kind_name outcome.TooDeepFolder = codes "too-deep-folder"

@@ -1,4 +1,4 @@
-//! A report in JSON.
+//! A report in JSON. The universe of an entry says whether its texts are of type `str` or `bytes`.
 ghost use Rattle.std.specs.Prelude.{◌≡◌, All, IfOk, IfSome, OnOk, codes, false, map, option_and_then, option_map};
 ghost use Rattle.std.specs.List.{count_by};
 ghost use Rattle.rl_ranges.specs.Text.{IsText};
@@ -26,6 +26,7 @@ use std::alloc::Global;
 /// The members of a JSON object.
 type Members = Map<String, Value>;
 
+/// Adds a key with this value to the members.
 fn put_value(
     alloc: Global,
     members: &mut Members,
@@ -39,6 +40,7 @@ fn put_value(
     Ok(())
 }
 
+/// Adds a key with this string to the members.
 fn put_text(alloc: Global, members: &mut Members, key: &str, text: &str) -> Result<(), OutOfMemory>
     ensures { OnOk result (members_view members.new.entries
         ≡ put key.now (string text.now) (members_view members.old.entries)) }
@@ -47,6 +49,7 @@ fn put_text(alloc: Global, members: &mut Members, key: &str, text: &str) -> Resu
     put_value(alloc, members, key, value)
 }
 
+/// Adds a key with this number to the members.
 fn put_number(
     alloc: Global,
     members: &mut Members,
@@ -59,6 +62,7 @@ fn put_number(
     put_value(alloc, members, key, Value::from(number))
 }
 
+/// Adds the line and the column of a place to the members.
 fn put_place(alloc: Global, members: &mut Members, place: Place) -> Result<(), OutOfMemory>
     ensures { OnOk result (members_view members.new.entries
         ≡ place_members place (members_view members.old.entries)) }
@@ -67,6 +71,7 @@ fn put_place(alloc: Global, members: &mut Members, place: Place) -> Result<(), O
     put_number(alloc, members, "column", place.column as usize)
 }
 
+/// Returns a place as an object.
 fn place_value(alloc: Global, place: Place) -> Result<Value, OutOfMemory>
     ensures { IfOk result (λ v. view v ≡ place_data place) }
 {
@@ -75,6 +80,7 @@ fn place_value(alloc: Global, place: Place) -> Result<Value, OutOfMemory>
     Ok(Value::Object(members))
 }
 
+/// Adds the place of the entry, if it has one.
 fn put_at(alloc: Global, members: &mut Members, at: Option<Place>) -> Result<(), OutOfMemory>
     ensures { OnOk result (members_view members.new.entries
         ≡ at_members at (members_view members.old.entries)) }
@@ -85,6 +91,7 @@ fn put_at(alloc: Global, members: &mut Members, at: Option<Place>) -> Result<(),
     }
 }
 
+/// Adds the name of the call, if the entry has one.
 fn put_call(alloc: Global, members: &mut Members, call: Option<Call>) -> Result<(), OutOfMemory>
     ensures { OnOk result (members_view members.new.entries
         ≡ put_some (codes "call") (λ c. string (call_word c)) call (members_view members.old.entries)) }
@@ -95,6 +102,7 @@ fn put_call(alloc: Global, members: &mut Members, call: Option<Call>) -> Result<
     }
 }
 
+/// Adds the place of the fault, if there is one.
 fn put_fault(alloc: Global, members: &mut Members, fault: Option<Place>) -> Result<(), OutOfMemory>
     ensures { OnOk result (members_view members.new.entries
         ≡ put_some (codes "fault") place_data fault (members_view members.old.entries)) }
@@ -108,6 +116,7 @@ fn put_fault(alloc: Global, members: &mut Members, fault: Option<Place>) -> Resu
     }
 }
 
+/// Adds an `undecided` verdict: its kind, and the name and the number of the limit.
 fn put_limit(
     alloc: Global,
     members: &mut Members,
@@ -123,6 +132,7 @@ fn put_limit(
     put_number(alloc, members, "over", number)
 }
 
+/// Adds a verdict: its kind and, depending on it, the degree, or the name and the number of the limit.
 fn put_verdict(
     alloc: Global,
     members: &mut Members,
@@ -142,6 +152,7 @@ fn put_verdict(
     }
 }
 
+/// Adds the kind of an outcome without a verdict and, if it is a refusal, the cause and the place of the fault.
 fn put_refusal(
     alloc: Global,
     members: &mut Members,
@@ -162,6 +173,7 @@ fn put_refusal(
     }
 }
 
+/// Adds the outcome of an entry: its verdict if there is one, otherwise its kind and the cause of its refusal.
 fn put_outcome(
     alloc: Global,
     members: &mut Members,
@@ -190,6 +202,7 @@ fn quoted_value(alloc: Global, text: &Codes, universe: Universe) -> Result<Value
     }
 }
 
+/// Returns texts of the universe as an array of quoted literals.
 fn texts_value(alloc: Global, texts: &[Codes], universe: Universe) -> Result<Value, OutOfMemory>
     requires { All (IsText universe) texts.now }
     ensures { IfOk result (λ v. view v ≡ texts_data universe texts.now) }
@@ -202,6 +215,7 @@ fn texts_value(alloc: Global, texts: &[Codes], universe: Universe) -> Result<Val
     Ok(Value::Array(values))
 }
 
+/// Adds a key with these texts, as an array of quoted literals.
 fn put_texts(
     alloc: Global,
     members: &mut Members,
@@ -217,6 +231,7 @@ fn put_texts(
     put_value(alloc, members, key, value)
 }
 
+/// Returns a family as an object: its heads and its pumps.
 fn family_value(alloc: Global, family: &Family, universe: Universe) -> Result<Value, OutOfMemory>
     requires { IsFamilyOf universe family.now }
     ensures { IfOk result (λ v. view v ≡ family_data universe family.now) }
@@ -228,6 +243,7 @@ fn family_value(alloc: Global, family: &Family, universe: Universe) -> Result<Va
     Ok(Value::Object(members))
 }
 
+/// Adds a family.
 fn put_family(
     alloc: Global,
     members: &mut Members,
@@ -242,6 +258,7 @@ fn put_family(
     put_value(alloc, members, "family", value)
 }
 
+/// Adds the family of the verdict, if there is one.
 fn put_family_of(
     alloc: Global,
     members: &mut Members,
@@ -261,6 +278,7 @@ fn put_family_of(
     }
 }
 
+/// Returns marks as an array of their places.
 fn marks_value(alloc: Global, marks: &[Mark]) -> Result<Value, OutOfMemory>
     ensures { IfOk result (λ v. view v ≡ marks_data marks.now) }
 {
@@ -272,6 +290,7 @@ fn marks_value(alloc: Global, marks: &[Mark]) -> Result<Value, OutOfMemory>
     Ok(Value::Array(values))
 }
 
+/// Adds a key with these marks, as an array of their places.
 fn put_mark_list(
     alloc: Global,
     members: &mut Members,
@@ -285,6 +304,7 @@ fn put_mark_list(
     put_value(alloc, members, key, value)
 }
 
+/// Adds the parts that a suggestion mentions, as three arrays of places.
 fn put_marks(alloc: Global, members: &mut Members, marks: &Marks) -> Result<(), OutOfMemory>
     ensures { OnOk result (members_view members.new.entries
         ≡ marks_members marks.now (members_view members.old.entries)) }
@@ -294,6 +314,7 @@ fn put_marks(alloc: Global, members: &mut Members, marks: &Marks) -> Result<(), 
     put_mark_list(alloc, members, "passed", marks.passed.as_slice())
 }
 
+/// Returns a verdict as an object.
 fn verdict_value(alloc: Global, verdict: &Verdict, max_pairs: u32) -> Result<Value, OutOfMemory>
     ensures { IfOk result (λ v. view v ≡ object (verdict_members max_pairs verdict.now no_members)) }
 {
@@ -302,6 +323,7 @@ fn verdict_value(alloc: Global, verdict: &Verdict, max_pairs: u32) -> Result<Val
     Ok(Value::Object(members))
 }
 
+/// Adds the verdict on the suggested pattern, if there is one and the report has version 2.
 fn put_becomes(
     alloc: Global,
     members: &mut Members,
@@ -324,6 +346,7 @@ fn put_becomes(
     }
 }
 
+/// Adds the suggested pattern and the verdict on it, if a pattern is suggested.
 fn put_suggest(
     alloc: Global,
     members: &mut Members,
@@ -347,6 +370,7 @@ fn put_suggest(
     }
 }
 
+/// Adds the marks, the suggested pattern and the verdict on it, if there is a suggestion.
 fn put_suggestion(
     alloc: Global,
     members: &mut Members,
@@ -371,6 +395,7 @@ fn put_suggestion(
     }
 }
 
+/// Adds the members that come before the outcome: the path, and the place and the call if the entry has them.
 fn put_front(alloc: Global, members: &mut Members, entry: &Entry) -> Result<(), OutOfMemory>
     ensures { OnOk result (members_view members.new.entries
         ≡ front_members entry.now (members_view members.old.entries)) }
@@ -380,6 +405,7 @@ fn put_front(alloc: Global, members: &mut Members, entry: &Entry) -> Result<(), 
     put_call(alloc, members, entry.call)
 }
 
+/// Adds the family of the verdict and the suggestion, if the entry has them.
 fn put_judged(
     alloc: Global,
     members: &mut Members,
@@ -403,6 +429,7 @@ fn put_judged(
     )
 }
 
+/// Returns an entry as an object.
 fn entry_value(alloc: Global, terms: Terms, entry: &Entry) -> Result<Value, OutOfMemory>
     requires { IsOfItsUniverse entry.now }
     ensures { IfOk result (λ v. view v ≡ entry_data terms.max_pairs terms.report entry.now) }
@@ -414,6 +441,7 @@ fn entry_value(alloc: Global, terms: Terms, entry: &Entry) -> Result<Value, OutO
     Ok(Value::Object(members))
 }
 
+/// Returns the entries as an array of objects.
 fn entries_value(alloc: Global, terms: Terms, entries: &[Entry]) -> Result<Value, OutOfMemory>
     requires { All IsOfItsUniverse entries.now }
     ensures { IfOk result (λ v. view v
@@ -427,7 +455,7 @@ fn entries_value(alloc: Global, terms: Terms, entries: &[Entry]) -> Result<Value
     Ok(Value::Array(values))
 }
 
-/// Adds the counts and the report version.
+/// Adds the numbers of findings, of refusals and of undecided verdicts, and the report version.
 fn put_counts(
     alloc: Global,
     members: &mut Members,
@@ -451,6 +479,7 @@ fn put_counts(
     put_number(alloc, members, "version", terms.report as usize)
 }
 
+/// Returns the whole report as an object.
 #[tactic(auto, unfolding(crate::specs::Document::report_data))]
 fn report_value(alloc: Global, terms: Terms, entries: &[Entry]) -> Result<Value, OutOfMemory>
     requires { All IsOfItsUniverse entries.now }
@@ -464,7 +493,12 @@ fn report_value(alloc: Global, terms: Terms, entries: &[Entry]) -> Result<Value,
     Ok(Value::Object(members))
 }
 
-/// Returns the report in JSON, which is one line.
+/// Returns the report in JSON: one line, with a line feed at the end and the keys of each object in the order of their bytes.
+/// It has the entries in order, and the numbers of findings, of entries without a verdict and of undecided ones. The texts in
+/// each entry must be texts of its universe.
+///
+/// # Errors
+/// [`OutOfMemory`] if memory runs out.
 pub fn json_report(alloc: Global, terms: Terms, entries: &[Entry]) -> Result<Bytes, OutOfMemory>
     requires { All IsOfItsUniverse entries.now }
     ensures { IfOk result (λ bytes. bytes

@@ -1,5 +1,7 @@
-//! The layouts of a report.
-ghost use Rattle.std.specs.Prelude.{◌≡◌, ◌⊎◌, All, IfOk, None, Some};
+//! The layouts of a report. The head line of an entry has its path, place, call and outcome; its detail lines show the family
+//! of its verdict and its suggestion; and the last line of a report gives numbers of entries. The universe of an entry says
+//! whether its texts are of type `str` or `bytes`.
+ghost use Rattle.std.specs.Prelude.{◌≡◌, ◌⊎◌, All, IfOk, None};
 ghost use Rattle.rl_report.specs.Layouts.{IsOfItsUniverse};
 ghost use Rattle.rl_report.specs.Reports.{report_text};
 
@@ -12,36 +14,17 @@ use std::alloc::Global;
 /// How a report is laid out.
 #[derive(Clone, Copy, Debug, PartialEq, Eq)]
 pub enum Format {
-    /// Head lines, detail lines and the last line.
+    /// The head line and the detail lines of each entry, and the last line.
     Text,
-    /// Head lines and the last line.
+    /// The head line of each entry, and the last line.
     Brief,
-    /// One line of JSON.
+    /// One line with a JSON object.
     Json,
 }
 
-/// Lays out the report on the entries in a format.
-fn laid_out(
-    alloc: Global,
-    entries: &Entries,
-    format: Format,
-    terms: Terms,
-    hidden: Option<usize>,
-) -> Result<Bytes, OutOfMemory>
-    requires { All IsOfItsUniverse entries.now }
-    ensures { IfOk result (λ bytes. bytes
-        ≡ report_text format terms.max_degree terms.max_pairs terms.report hidden entries.now) }
-{
-    let entries = entries.as_slice();
-    match format {
-        Format::Text => text_report(alloc, terms, entries, hidden),
-        Format::Brief => brief_report(alloc, terms, entries, hidden),
-        Format::Json => json_report(alloc, terms, entries),
-    }
-}
-
-/// Returns the report on the entries, in version 1 or 2. A degree above `max_degree` is a finding, and `max_pairs` is the limit
-/// of live pairs.
+/// Returns the report on the entries in a format, in the version `report`, which must be 1 or 2. A degree above `max_degree`
+/// is a finding, and `max_pairs` is the limit of live pairs, which a report shows if it was exceeded. The texts in each entry
+/// must be texts of its universe.
 ///
 /// # Errors
 /// [`OutOfMemory`] if memory runs out.
@@ -58,23 +41,20 @@ pub fn render(
     ensures { IfOk result (λ bytes. bytes
         ≡ report_text format max_degree max_pairs report None entries.now) }
 {
-    let terms = Terms {
-        max_degree,
-        max_pairs,
-        report,
-    };
-    laid_out(alloc, entries, format, terms, None)
+    render_shown(alloc, entries, None, format, max_degree, max_pairs, report)
 }
 
-/// Returns the report on the entries that a baseline doesn't hide, as [`render`] does, with the number of hidden entries in the
-/// last line. JSON doesn't show that number.
+/// Returns the report on the entries that a baseline doesn't hide, as [`render`] does. `hidden` is the number of entries that
+/// Returns the report on the entries that a baseline doesn't hide, as [`render`] does. `hidden` is the number of entries that
+/// the baseline hides, which the last line of the text and brief formats then shows, even if it is 0, or `None` without a
+/// baseline. JSON doesn't show that number. `report` must be 1 or 2, and the texts in each entry must be texts of its universe.
 ///
 /// # Errors
 /// [`OutOfMemory`] if memory runs out.
 pub fn render_shown(
     alloc: Global,
     entries: &Entries,
-    hidden: usize,
+    hidden: Option<usize>,
     format: Format,
     max_degree: u32,
     max_pairs: u32,
@@ -83,12 +63,17 @@ pub fn render_shown(
     requires version { (report ≡ 1) ⊎ (report ≡ 2) }
     requires universe { All IsOfItsUniverse entries.now }
     ensures { IfOk result (λ bytes. bytes
-        ≡ report_text format max_degree max_pairs report (Some hidden) entries.now) }
+        ≡ report_text format max_degree max_pairs report hidden entries.now) }
 {
+    let entries = entries.as_slice();
     let terms = Terms {
         max_degree,
         max_pairs,
         report,
     };
-    laid_out(alloc, entries, format, terms, Some(hidden))
+    match format {
+        Format::Text => text_report(alloc, terms, entries, hidden),
+        Format::Brief => brief_report(alloc, terms, entries, hidden),
+        Format::Json => json_report(alloc, terms, entries),
+    }
 }

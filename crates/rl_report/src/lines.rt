@@ -1,4 +1,5 @@
-//! The lines of a report as text.
+//! The lines of a report as text. The head line of an entry has its path, place, call and outcome; its detail lines show the
+//! family of its verdict and its suggestion. The universe of an entry says whether its texts are of type `str` or `bytes`.
 ghost use Rattle.std.specs.Prelude.{◌≡◌, ◌∷◌, ◌++◌, All, IfOk, IfSome, None, OnOk, option_map};
 ghost use Rattle.std.specs.List.{flat_map};
 ghost use Rattle.rl_ranges.specs.Text.{IsText};
@@ -18,17 +19,18 @@ use rl_sites::Call;
 use rl_syntax::{Suggestion, Universe, Verdict};
 use std::alloc::Global;
 
-/// The settings that the text of a report depends on.
+/// The settings that a report depends on, in text and in JSON.
 #[derive(Clone, Copy)]
 pub struct Terms {
     /// The highest degree that isn't a finding.
     pub max_degree: u32,
-    /// The limit of live pairs.
+    /// The limit of live pairs. A report shows it if a verdict is `undecided` because the limit was exceeded.
     pub max_pairs: u32,
-    /// The version of the report.
+    /// The version of the report, 1 or 2. Only version 2 shows the verdict on a suggested pattern.
     pub report: u32,
 }
 
+/// Appends a colon and the place of the entry, if it has one.
 fn push_at(alloc: Global, out: &mut Vec<u8>, at: Option<Place>) -> Result<(), OutOfMemory>
     ensures { OnOk result (out.new.items ≡ out.old.items ++ at_text at) }
 {
@@ -41,6 +43,7 @@ fn push_at(alloc: Global, out: &mut Vec<u8>, at: Option<Place>) -> Result<(), Ou
     }
 }
 
+/// Appends the name of the call, a colon and a space, if the entry has a call.
 fn push_call(out: &mut Vec<u8>, call: Option<Call>) -> Result<(), OutOfMemory>
     ensures { OnOk result (out.new.items ≡ out.old.items ++ call_text call) }
 {
@@ -71,6 +74,7 @@ fn push_head(
     push_text(out, "\n")
 }
 
+/// Appends a space and the text of a mark, if the report shows the text.
 fn push_mark_text(out: &mut Vec<u8>, text: &Option<Bytes>) -> Result<(), OutOfMemory>
     ensures { OnOk result (out.new.items ≡ out.old.items ++ mark_text text.now) }
 {
@@ -84,6 +88,7 @@ fn push_mark_text(out: &mut Vec<u8>, text: &Option<Bytes>) -> Result<(), OutOfMe
     }
 }
 
+/// Appends the line of a mark, which begins with `word`.
 fn push_mark(alloc: Global, out: &mut Vec<u8>, word: &str, mark: &Mark) -> Result<(), OutOfMemory>
     ensures { OnOk result (out.new.items ≡ out.old.items ++ mark_line word.now mark.now) }
 {
@@ -95,6 +100,7 @@ fn push_mark(alloc: Global, out: &mut Vec<u8>, word: &str, mark: &Mark) -> Resul
     push_text(out, "\n")
 }
 
+/// Appends the lines of these marks, which begin with `word`.
 fn push_mark_list(
     alloc: Global,
     out: &mut Vec<u8>,
@@ -109,6 +115,7 @@ fn push_mark_list(
     Ok(())
 }
 
+/// Appends the lines of all parts that a suggestion mentions.
 fn push_marks(alloc: Global, out: &mut Vec<u8>, marks: &Marks) -> Result<(), OutOfMemory>
     ensures { OnOk result (out.new.items ≡ out.old.items ++ mark_lines marks.now) }
 {
@@ -117,6 +124,7 @@ fn push_marks(alloc: Global, out: &mut Vec<u8>, marks: &Marks) -> Result<(), Out
     push_mark_list(alloc, out, "passed", marks.passed.as_slice())
 }
 
+/// Appends the line of the verdict on the suggested pattern, if there is one and the report has version 2.
 fn push_becomes(
     alloc: Global,
     out: &mut Vec<u8>,
@@ -139,6 +147,7 @@ fn push_becomes(
     }
 }
 
+/// Appends the line of the suggested pattern and the line of the verdict on it, if a pattern is suggested.
 fn push_suggest(
     alloc: Global,
     out: &mut Vec<u8>,
@@ -162,6 +171,7 @@ fn push_suggest(
     }
 }
 
+/// Appends the lines of a suggestion, if there is one.
 fn push_suggestion(
     alloc: Global,
     out: &mut Vec<u8>,
@@ -185,6 +195,7 @@ fn push_suggestion(
     }
 }
 
+/// Appends the line of the verdict's family, if there is one.
 fn push_family_of(
     alloc: Global,
     out: &mut Vec<u8>,
@@ -242,6 +253,7 @@ fn push_entry(
     push_details(alloc, out, terms, entry)
 }
 
+/// Appends the head line and the detail lines of each entry.
 fn push_entries(
     alloc: Global,
     out: &mut Vec<u8>,
@@ -258,6 +270,7 @@ fn push_entries(
     Ok(())
 }
 
+/// Appends the head line of each entry.
 fn push_heads(
     alloc: Global,
     out: &mut Vec<u8>,
@@ -272,6 +285,7 @@ fn push_heads(
     Ok(())
 }
 
+/// Appends the number of entries that the baseline hides, if one was used.
 fn push_hidden(alloc: Global, out: &mut Vec<u8>, hidden: Option<usize>) -> Result<(), OutOfMemory>
     ensures { OnOk result (out.new.items ≡ out.old.items ++ hidden_text hidden) }
 {
@@ -285,6 +299,7 @@ fn push_hidden(alloc: Global, out: &mut Vec<u8>, hidden: Option<usize>) -> Resul
     }
 }
 
+/// Appends the numbers of entries, findings, refusals and undecided verdicts.
 fn push_counts(
     alloc: Global,
     out: &mut Vec<u8>,
@@ -318,7 +333,11 @@ fn push_last(
     push_text(out, "\n")
 }
 
-/// Returns the head lines and the last line.
+/// Returns the report in the brief format: the head line of each entry, in order, and the last line. `hidden` is the number of
+/// entries that a baseline hides, or `None` if none was used; the last line shows it.
+///
+/// # Errors
+/// [`OutOfMemory`] if memory runs out.
 pub fn brief_report(
     alloc: Global,
     terms: Terms,
@@ -334,7 +353,12 @@ pub fn brief_report(
     Ok(Bytes::from_vec(out))
 }
 
-/// Returns the head line and the detail lines of each entry, and the last line.
+/// Returns the report in the text format: the head line and the detail lines of each entry, in order, and the last line.
+/// `hidden` is the number of entries that a baseline hides, or `None` if none was used; the last line shows it. The texts in
+/// each entry must be texts of its universe.
+///
+/// # Errors
+/// [`OutOfMemory`] if memory runs out.
 pub fn text_report(
     alloc: Global,
     terms: Terms,
@@ -351,8 +375,9 @@ pub fn text_report(
     Ok(Bytes::from_vec(out))
 }
 
-/// Returns the last line of the text format: how many entries there are, and how many of them are findings, refused and
-/// undecided. A degree above `max_degree` is a finding.
+/// Returns the last line of the text format, with its line feed and without a number of hidden entries: how many entries there
+/// are, and how many of them are findings (exponential, or of a degree above `max_degree`), have no verdict, and are
+/// undecided.
 ///
 /// # Errors
 /// [`OutOfMemory`] if memory runs out.

@@ -1,4 +1,6 @@
-//! The names that a report uses for calls, limits, kinds and causes.
+//! The names that a report uses for calls, limits, kinds and causes. A verdict says how the cost of matching a pattern grows
+//! with the length of the text: with a degree, exponentially, or `undecided`, because a limit was exceeded. A live pair, whose
+//! number one of the limits bounds, is a state of the pattern's automaton with the set of states that were tried before it.
 ghost use Rattle.std.specs.Prelude.{◌≡◌};
 ghost use Rattle.rl_sites.specs.Names.{call_word};
 ghost use Rattle.rl_report.specs.Names.{feature_name, lexing_cause, limit_name, limit_number, literal_cause, pattern_cause, verdict_kind};
@@ -9,7 +11,7 @@ use rl_pystr::StrError;
 use rl_sites::Call;
 use rl_syntax::{Feature, Limit, MOST_COUNTED_SETS, MOST_LETTERS, MOST_MOVES, MOST_NODES, Verdict};
 
-/// Returns the name of a feature that keeps a pattern from being judged.
+/// Returns the name, as reports show it, of a feature because of which a pattern isn't judged.
 pub fn feature_name(feature: Feature) -> &'static str
     ensures { result.now ≡ feature_name feature }
 {
@@ -31,7 +33,7 @@ pub fn feature_name(feature: Feature) -> &'static str
     }
 }
 
-/// Returns the name of a call.
+/// Returns the name of the function of `re` that a site calls.
 pub fn call_name(call: Call) -> &'static str
     ensures { result.now ≡ call_word call }
 {
@@ -48,7 +50,7 @@ pub fn call_name(call: Call) -> &'static str
     }
 }
 
-/// Returns the name of a limit.
+/// Returns the name of a limit, as reports show it.
 pub fn limit_name(limit: Limit) -> &'static str
     ensures { result.now ≡ limit_name limit }
 {
@@ -61,7 +63,7 @@ pub fn limit_name(limit: Limit) -> &'static str
     }
 }
 
-/// Returns the number of a limit. The limit of live pairs is a setting, given as `max_pairs`.
+/// Returns the greatest number that a limit allows: `max_pairs` for live pairs, and a fixed number for every other limit.
 pub fn limit_number(limit: Limit, max_pairs: u32) -> u32
     ensures { result ≡ limit_number max_pairs limit }
 {
@@ -74,7 +76,7 @@ pub fn limit_number(limit: Limit, max_pairs: u32) -> u32
     }
 }
 
-/// Returns the name of a verdict's kind.
+/// Returns the name of a verdict's kind: `degree`, `exponential` or `undecided`.
 pub fn verdict_kind(verdict: &Verdict) -> &'static str
     ensures { result.now ≡ verdict_kind verdict.now }
 {
@@ -85,7 +87,8 @@ pub fn verdict_kind(verdict: &Verdict) -> &'static str
     }
 }
 
-/// Returns the name of the fault that keeps a source from being cut into tokens.
+/// Returns the name of the fault that keeps a source from being cut into tokens. Running out of memory has a name, but no
+/// report shows it.
 pub fn lexing_cause(error: LexError) -> &'static str
     ensures { result.now ≡ lexing_cause error }
 {
@@ -99,7 +102,8 @@ pub fn lexing_cause(error: LexError) -> &'static str
     }
 }
 
-/// Returns the name of the reason why literals have no value.
+/// Returns the name of the reason why a call's string literals have no value. Running out of memory has a name, but no report
+/// shows it.
 pub fn literal_cause(error: StrError) -> &'static str
     ensures { result.now ≡ literal_cause error }
 {
@@ -113,7 +117,8 @@ pub fn literal_cause(error: StrError) -> &'static str
     }
 }
 
-/// Returns the name of the reason why a pattern can't be judged.
+/// Returns the name of the reason why a pattern can't be judged: `syntax`, `too-deep`, `too-long`, or the name of the feature
+/// that isn't judged. Running out of memory has a name, but no report shows it.
 pub fn pattern_cause(error: PatError) -> &'static str
     ensures { result.now ≡ pattern_cause error }
 {

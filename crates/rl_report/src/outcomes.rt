@@ -1,4 +1,6 @@
-//! Outcomes as texts.
+//! Outcomes as texts. A verdict says how the cost of matching a pattern grows with the length of the text: with a degree,
+//! exponentially, or `undecided`, because a limit was exceeded. A live pair, whose number one of the limits bounds, is a state
+//! of the pattern's automaton with the set of states that were tried before it.
 ghost use Rattle.std.specs.Prelude.{◌≡◌, IfOk, string_bytes};
 ghost use Rattle.rl_report.specs.Findings.{verdict_of};
 ghost use Rattle.rl_report.specs.Layouts.{outcome_text, refusal_text};
@@ -32,8 +34,9 @@ fn refusal_text(
     }
 }
 
-/// Returns the outcome of an entry as the head line shows it: the verdict, the cause of a refusal with its place, or the kind
-/// of an outcome that has no cause. `max_pairs` is the limit of live pairs.
+/// Returns the outcome of an entry as its head line shows it: the verdict, if it has one; `refused CAUSE at LINE:COLUMN` for a
+/// refusal, without ` at LINE:COLUMN` if the fault has no place; otherwise the kind of the outcome, such as `unreadable`.
+/// `max_pairs` is the limit of live pairs, which an undecided verdict may show.
 ///
 /// # Errors
 /// [`OutOfMemory`] if memory runs out.

@@ -11,7 +11,10 @@ use rl_pystr::quote;
 use rl_syntax::Universe;
 use std::alloc::Global;
 
-/// Appends a text.
+/// Appends the bytes of a text to `out`.
+///
+/// # Errors
+/// [`OutOfMemory`] if memory runs out.
 pub fn push_text(out: &mut Vec<u8>, text: &str) -> Result<(), OutOfMemory>
     ensures { OnOk result (out.new.items ≡ out.old.items ++ text.now) }
 {
@@ -19,7 +22,10 @@ pub fn push_text(out: &mut Vec<u8>, text: &str) -> Result<(), OutOfMemory>
     Ok(())
 }
 
-/// Appends a number in decimal.
+/// Appends a number to `out`, in decimal.
+///
+/// # Errors
+/// [`OutOfMemory`] if memory runs out.
 pub fn push_number(alloc: Global, out: &mut Vec<u8>, number: usize) -> Result<(), OutOfMemory>
     ensures { OnOk result (out.new.items ≡ out.old.items ++ decimal number) }
 {
@@ -27,7 +33,10 @@ pub fn push_number(alloc: Global, out: &mut Vec<u8>, number: usize) -> Result<()
     push_text(out, text.as_str())
 }
 
-/// Appends a line and a column, as `LINE:COLUMN`.
+/// Appends a place to `out`, as `LINE:COLUMN`.
+///
+/// # Errors
+/// [`OutOfMemory`] if memory runs out.
 pub fn push_place(alloc: Global, out: &mut Vec<u8>, place: Place) -> Result<(), OutOfMemory>
     ensures { OnOk result (out.new.items ≡ out.old.items ++ place_text place) }
 {
@@ -37,7 +46,11 @@ pub fn push_place(alloc: Global, out: &mut Vec<u8>, place: Place) -> Result<(), 
     push_text(out, text.as_str())
 }
 
-/// Appends a text as a quoted literal.
+/// Appends a text of the universe to `out`, as a quoted Python literal of type `str` or `bytes`. Each code of `text` must be
+/// one of the universe.
+///
+/// # Errors
+/// [`OutOfMemory`] if memory runs out.
 pub fn push_quoted(
     alloc: Global,
     out: &mut Vec<u8>,

@@ -1,4 +1,4 @@
-//! Lines and columns.
+//! Lines and columns. A byte place is a number of bytes from the beginning of a source.
 ghost use Rattle.std.specs.Prelude.{◌≡◌, ◌+◌, ◌<◌, ◌≤◌, List, ℕ, drop, length};
 ghost use Rattle.rl_pylex.specs.Bytes.{text_start};
 ghost use Rattle.rl_report.specs.Places.{IsAt, after, place_of, role_at};
@@ -77,16 +77,18 @@ impl Place {
     }
 }
 
-/// A byte place in a source, with its line and column. It only moves forward, so finding any number of places in increasing
-/// order takes one pass over the source.
+/// A byte place in a source, with its line and column. It only moves forward, so one pass over the source finds any number of
+/// places in increasing order.
 #[derive(Clone, Copy)]
 pub struct Cursor {
+    /// The byte place, counted from 0.
     byte: u32,
+    /// The line and column of the byte place.
     place: Place,
 }
 
 impl Cursor {
-    /// Returns a cursor at the beginning, which fits every source.
+    /// Returns a cursor at byte place 0, line 1 and column 1, which is right for every source.
     #[tactic(auto, using(crate::proofs::PlaceLemmas::steps))]
     pub fn start() -> Cursor
         ensures front { result.byte ≡ 0 }
@@ -98,21 +100,22 @@ impl Cursor {
         }
     }
 
-    /// Returns the byte place.
+    /// Returns the byte place of the cursor, counted from 0.
     pub fn byte(self) -> u32
         ensures { result ≡ self.byte }
     {
         self.byte
     }
 
-    /// Returns the line and column.
+    /// Returns the line and column of the cursor.
     pub fn place(self) -> Place
         ensures { result ≡ self.place }
     {
         self.place
     }
 
-    /// Returns a cursor at a later byte place of the same source, or at the same one.
+    /// Returns a cursor at the byte place `byte` of `source`. The cursor must be right for this source, and `byte` must not be
+    /// before the cursor nor after the end of the source, and must be less than 2^32 - 1.
     #[tactic(auto, using(crate::proofs::PlaceLemmas::steps))]
     pub fn forward(self, source: &[u8], byte: u32) -> Cursor
         requires at { IsAt source.now self }
@@ -131,9 +134,10 @@ impl Cursor {
     }
 }
 
-/// Returns the line and column of a byte place. A byte order mark at the beginning doesn't count as a column. A line ends with
-/// CR LF, with a CR that has no LF after it, or with LF. A place between CR and LF is on the line that they end, one column
-/// after the CR.
+/// Returns the line and column of a byte place, which must not be after the end of the source and must be less than 2^32 - 1.
+/// A byte order mark at the beginning doesn't count as a column, and a place in it is line 1, column 1. A line ends with CR
+/// LF, with a CR that has no LF after it, or with LF. A place between CR and LF is on the line that they end, one column after
+/// the CR.
 pub fn place_of(source: &[u8], byte: u32) -> Place
     requires within { byte ≤ length source.now }
     requires small { byte < 4294967295 }

@@ -1,4 +1,6 @@
-//! The entries of a report.
+//! The entries of a report. A site is a call of `re` whose first argument begins with string literals. A suggestion says what
+//! can be left out of a pattern: it has the simpler pattern, if there is one, and mentions parts (branches and quantifiers) of
+//! the old one.
 ghost use Rattle.std.specs.Prelude.{◌≡◌, option_map};
 ghost use Rattle.rl_report.specs.Findings.{becomes_of, is_finding, is_found, is_refused, is_undecided, suggestion_of, verdict_of};
 ghost use Rattle.rl_report.specs.Names.{cause_name, kind_name};
@@ -32,7 +34,8 @@ pub enum Outcome {
     FlagsUnknown,
     /// The value isn't a pattern that can be judged.
     Pattern(PatError),
-    /// The verdict on the pattern, a suggestion for it, and the verdict on the suggested pattern.
+    /// The verdict on the pattern, a suggestion for it, if there is one, and the verdict on the suggested pattern, if there is
+    /// one.
     Judged(Verdict, Option<Suggestion>, Option<Verdict>),
 }
 
@@ -64,13 +67,15 @@ pub struct Marks {
 pub struct Entry {
     /// The path of the source, or the path that was visited.
     pub path: Name,
-    /// The place of the site's first literal, or the place of a fault of the source.
+    /// The place of the site's first literal, or the place of a fault because of which the source can't be cut into tokens.
+    /// `None` if there is no site and no such place.
     pub at: Option<Place>,
-    /// The call of the site.
+    /// The call of the site, or `None` if the entry isn't that of a site.
     pub call: Option<Call>,
     /// Whether the pattern is text or bytes; text if there is no pattern.
     pub universe: Universe,
-    /// The place in the source of a fault in the literals or in the pattern.
+    /// The place in the source of a fault in the literals or in the pattern, or `None` if there is no such fault or it has no
+    /// place.
     pub fault: Option<Place>,
     /// The result.
     pub outcome: Outcome,
@@ -82,7 +87,8 @@ pub struct Entry {
 pub type Entries = Items<Entry>;
 
 impl Outcome {
-    /// Returns the name of the outcome's kind.
+    /// Returns the name of the outcome's kind: `degree`, `exponential` or `undecided` if it has a verdict; `unreadable`,
+    /// `too-deep-folder` or `not-plain` for a path without a source; otherwise `refused`.
     pub fn kind(&self) -> &'static str
         ensures { result.now ≡ kind_name self.now }
     {
@@ -99,7 +105,7 @@ impl Outcome {
         }
     }
 
-    /// Returns the verdict, if there is one.
+    /// Returns the verdict, or `None` if the outcome has none, because the pattern or the path wasn't judged.
     pub fn verdict(&self) -> Option<&Verdict>
         ensures { option_map (λ v. v.now) result ≡ verdict_of self.now }
     {
@@ -109,7 +115,7 @@ impl Outcome {
         }
     }
 
-    /// Returns the suggestion that comes with the verdict, if there is one.
+    /// Returns the suggestion that comes with the verdict, or `None` if there is no verdict or it comes without one.
     pub fn suggestion(&self) -> Option<&Suggestion>
         ensures { option_map (λ s. s.now) result ≡ suggestion_of self.now }
     {
@@ -119,7 +125,7 @@ impl Outcome {
         }
     }
 
-    /// Returns the verdict on the suggested pattern, if there is one.
+    /// Returns the verdict on the suggested pattern, or `None` if the outcome has no verdict or its verdict comes without one.
     pub fn becomes(&self) -> Option<&Verdict>
         ensures { option_map (λ v. v.now) result ≡ becomes_of self.now }
     {
@@ -129,7 +135,7 @@ impl Outcome {
         }
     }
 
-    /// Returns the name of the cause, if the outcome is a refusal.
+    /// Returns the name of the cause of a refusal, or `None` for any other outcome.
     pub fn cause(&self) -> Option<&'static str>
         ensures { option_map (λ c. c.now) result ≡ cause_name self.now }
     {
@@ -147,7 +153,7 @@ impl Outcome {
     }
 }
 
-/// Whether a verdict is a finding: it is exponential, or its degree is above `max_degree`.
+/// Returns whether a verdict is a finding: it is exponential, or its degree is above `max_degree`.
 pub fn is_finding(verdict: &Verdict, max_degree: u32) -> bool
     ensures { result ≡ is_found max_degree verdict.now }
 {
@@ -159,7 +165,8 @@ pub fn is_finding(verdict: &Verdict, max_degree: u32) -> bool
 }
 
 impl Entry {
-    /// Whether the entry is a finding, which its verdict decides.
+    /// Returns whether the entry is a finding: its verdict is exponential, or a degree above `max_degree`. The verdict on a
+    /// suggested pattern doesn't count.
     #[tactic(auto, unfolding(crate::specs::Findings::is_finding))]
     pub fn is_finding(&self, max_degree: u32) -> bool
         ensures { result ≡ is_finding max_degree self.now }
@@ -170,7 +177,7 @@ impl Entry {
         }
     }
 
-    /// Whether the entry has no verdict.
+    /// Returns whether the entry has no verdict: it is refused, or its path is unreadable, too deep or not plain.
     #[tactic(auto, unfolding(crate::specs::Findings::is_refused))]
     pub fn is_refused(&self) -> bool
         ensures { result ≡ is_refused self.now }
@@ -178,7 +185,7 @@ impl Entry {
         self.outcome.verdict().is_none()
     }
 
-    /// Whether the entry's verdict is `undecided`, because a limit was exceeded.
+    /// Returns whether the entry's verdict is `undecided`, because a limit was exceeded.
     #[tactic(auto, unfolding(crate::specs::Findings::is_undecided))]
     pub fn is_undecided(&self) -> bool
         ensures { result ≡ is_undecided self.now }

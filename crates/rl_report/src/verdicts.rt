@@ -1,4 +1,7 @@
-//! Verdicts and families as texts.
+//! Verdicts and families as texts. A verdict says how the cost of matching a pattern grows with the length of the text: with a
+//! degree, exponentially, or `undecided`, because a limit was exceeded. A live pair, whose number one of the limits bounds, is
+//! a state of the pattern's automaton with the set of states that were tried before it. A family is the parts of texts that
+//! show the verdict: heads and pumps that alternate, first a head, then each pump with the next head. The pumps are repeated.
 ghost use Rattle.std.specs.Prelude.{◌≡◌, ◌+◌, [], ◌∷◌, ◌++◌, All, IfOk, OnOk, codes, length, string_bytes};
 ghost use Rattle.rl_ranges.specs.Text.{IsText};
 ghost use Rattle.rl_report.specs.Names.{Text};
@@ -10,7 +13,11 @@ use rl_lists::{Bytes, Codes, OutOfMemory};
 use rl_syntax::{Family, Universe, Verdict};
 use std::alloc::Global;
 
-/// Returns a verdict as a text: `degree D`, `exponential` or `undecided L over N`.
+/// Returns a verdict as a text: `degree D`, `exponential`, or `undecided L over N`, where L is the name of the exceeded limit
+/// and N the number that it allows. `max_pairs` is N if the limit is that of live pairs, and isn't used otherwise.
+///
+/// # Errors
+/// [`OutOfMemory`] if memory runs out.
 pub fn verdict_text(alloc: Global, verdict: &Verdict, max_pairs: u32) -> Result<String, OutOfMemory>
     ensures { IfOk result (λ text. string_bytes text ≡ verdict_text max_pairs verdict.now) }
 {
@@ -25,7 +32,10 @@ pub fn verdict_text(alloc: Global, verdict: &Verdict, max_pairs: u32) -> Result<
     }
 }
 
-/// Appends a verdict.
+/// Appends a verdict to `out`, as [`verdict_text`] returns it.
+///
+/// # Errors
+/// [`OutOfMemory`] if memory runs out.
 pub fn push_verdict(
     alloc: Global,
     out: &mut Vec<u8>,
@@ -97,7 +107,11 @@ fn push_parts(
     }
 }
 
-/// Appends the line of a family.
+/// Appends the line of a family to `out`, as [`family_line`] returns it. The texts of the family must be texts of the
+/// universe.
+///
+/// # Errors
+/// [`OutOfMemory`] if memory runs out.
 pub fn push_family(
     alloc: Global,
     out: &mut Vec<u8>,
@@ -118,7 +132,8 @@ pub fn push_family(
     push_text(out, "\n")
 }
 
-/// Returns the line of a verdict: `degree D`, `exponential` or `undecided L over N`, and a line feed.
+/// Returns the line of a verdict, with its line feed: `degree D`, `exponential`, or `undecided L over N`, where L is the name
+/// of the exceeded limit and N the number that it allows. `max_pairs` is N if the limit is that of live pairs.
 ///
 /// # Errors
 /// [`OutOfMemory`] if memory runs out.
@@ -131,8 +146,9 @@ pub fn verdict_line(alloc: Global, verdict: &Verdict, max_pairs: u32) -> Result<
     Ok(Bytes::from_vec(out))
 }
 
-/// Returns the line of a family: two spaces, `family`, the first head, then each pump with the head that follows it, labelled `
-/// x0`, ` y1`, ` x1` and so on, each with its quoted text, and a line feed.
+/// Returns the line of a family: two spaces, `family`, the first head, then each pump with the head that follows it, labelled
+/// ` x0`, ` y1`, ` x1` and so on, each with its quoted text, and a line feed. The texts of the family must be texts of the
+/// universe.
 ///
 /// # Errors
 /// [`OutOfMemory`] if memory runs out.

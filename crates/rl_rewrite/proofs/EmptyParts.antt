@@ -5,7 +5,7 @@ use Rattle.rl_syntax.specs.declared.span.Span.{Span}
 use Rattle.rl_syntax.specs.Lowering.{in_turn, one_of, option_of, options, tail_of, times, lowered, items_lowered, branches_lowered}
 use Rattle.rl_syntax.specs.PatTree as p
 use Rattle.rl_syntax.specs.Tree.{Tree}
-use Rattle.rl_pattern.specs.Cut.{left, left_items, left_branches}
+use Rattle.rl_pattern.specs.Cut.{remaining, remaining_items, remaining_branches}
 use Rattle.rl_pattern.specs.Suggested.{no_span, some_kept}
 use Rattle.rl_trim.specs.Without.{may_be_empty}
 use Rattle.rl_rewrite.proofs.Fewer.{choice_tree}
@@ -69,39 +69,39 @@ times_empty : (least : ℕ) (most : Option ℕ) (g : Bool) (t : Tree) → may_be
 times_empty least most g t = turn_empty (replicate least t ++ tail_of g t least most) ∙ copies_empty least t (tail_of g t least most) (tail_empty g t least most)
 
 module _ (drop : Span → Bool) where
-  none_kept : (bs : p.BranchTrees) → is_none (branches_lowered (left_branches drop no_span bs)) ≡ not (some_kept drop bs)
+  none_kept : (bs : p.BranchTrees) → is_none (branches_lowered (remaining_branches drop no_span bs)) ≡ not (some_kept drop bs)
   none_kept p.no_branches = refl
   none_kept (p.branch s q bs) = go (drop s) (none_kept bs)
     where
-      go : (d : Bool) → is_none (branches_lowered (left_branches drop no_span bs)) ≡ not (some_kept drop bs) → is_none (branches_lowered (if d then left_branches drop no_span bs else p.branch s (left drop no_span q) (left_branches drop no_span bs))) ≡ not (not d || some_kept drop bs)
+      go : (d : Bool) → is_none (branches_lowered (remaining_branches drop no_span bs)) ≡ not (some_kept drop bs) → is_none (branches_lowered (if d then remaining_branches drop no_span bs else p.branch s (remaining drop no_span q) (remaining_branches drop no_span bs))) ≡ not (not d || some_kept drop bs)
       go true e = e
       go false e = refl
 
-  branch_empty : (d : Bool) (s : Span) (q : p.PatTree) (bs : p.BranchTrees) → may_be_empty (lowered (left drop no_span q)) ≡ spans_empty drop q → any_empty (branches_lowered (left_branches drop no_span bs)) ≡ branch_spans_empty drop bs
-      → any_empty (branches_lowered (if d then left_branches drop no_span bs else p.branch s (left drop no_span q) (left_branches drop no_span bs))) ≡ ((if d then false else spans_empty drop q) || branch_spans_empty drop bs)
+  branch_empty : (d : Bool) (s : Span) (q : p.PatTree) (bs : p.BranchTrees) → may_be_empty (lowered (remaining drop no_span q)) ≡ spans_empty drop q → any_empty (branches_lowered (remaining_branches drop no_span bs)) ≡ branch_spans_empty drop bs
+      → any_empty (branches_lowered (if d then remaining_branches drop no_span bs else p.branch s (remaining drop no_span q) (remaining_branches drop no_span bs))) ≡ ((if d then false else spans_empty drop q) || branch_spans_empty drop bs)
   branch_empty true s q bs e f = f
-  branch_empty false s q bs e f = ap (λ a. a || any_empty (branches_lowered (left_branches drop no_span bs))) e ∙ ap (λ a. spans_empty drop q || a) f
+  branch_empty false s q bs e f = ap (λ a. a || any_empty (branches_lowered (remaining_branches drop no_span bs))) e ∙ ap (λ a. spans_empty drop q || a) f
 
   mutual
-    pub left_empty : (q : p.PatTree) → may_be_empty (lowered (left drop no_span q)) ≡ spans_empty drop q
+    pub left_empty : (q : p.PatTree) → may_be_empty (lowered (remaining drop no_span q)) ≡ spans_empty drop q
     left_empty (p.nothing s) = refl
     left_empty (p.class s set) = refl
-    left_empty (p.seq s qs) = turn_empty (items_lowered (left_items drop no_span qs)) ∙ items_empty qs
+    left_empty (p.seq s qs) = turn_empty (items_lowered (remaining_items drop no_span qs)) ∙ items_empty qs
     left_empty (p.choice s bs) =
-        ap may_be_empty (choice_tree s (left_branches drop no_span bs))
-        ∙ one_empty (branches_lowered (left_branches drop no_span bs))
-        ∙ ap (λ a. a || is_none (branches_lowered (left_branches drop no_span bs))) (branches_empty bs)
+        ap may_be_empty (choice_tree s (remaining_branches drop no_span bs))
+        ∙ one_empty (branches_lowered (remaining_branches drop no_span bs))
+        ∙ ap (λ a. a || is_none (branches_lowered (remaining_branches drop no_span bs))) (branches_empty bs)
         ∙ ap (λ a. branch_spans_empty drop bs || a) (none_kept bs)
-    left_empty (p.repeat s r l m g q) = times_empty l m g (lowered (left drop no_span q)) ∙ ap (λ a. (l == 0) || a) (left_empty q)
+    left_empty (p.repeat s r l m g q) = times_empty l m g (lowered (remaining drop no_span q)) ∙ ap (λ a. (l == 0) || a) (left_empty q)
     left_empty (p.group s c q) = left_empty q
     left_empty (p.anchor s k m) = refl
     left_empty (p.boundary s n a) = refl
     left_empty (p.outside s f) = refl
 
-    items_empty : (qs : p.PatTrees) → all_empty (items_lowered (left_items drop no_span qs)) ≡ items_span_empty drop qs
+    items_empty : (qs : p.PatTrees) → all_empty (items_lowered (remaining_items drop no_span qs)) ≡ items_span_empty drop qs
     items_empty p.no_items = refl
-    items_empty (p.item q qs) = ap (λ a. a && all_empty (items_lowered (left_items drop no_span qs))) (left_empty q) ∙ ap (λ a. spans_empty drop q && a) (items_empty qs)
+    items_empty (p.item q qs) = ap (λ a. a && all_empty (items_lowered (remaining_items drop no_span qs))) (left_empty q) ∙ ap (λ a. spans_empty drop q && a) (items_empty qs)
 
-    branches_empty : (bs : p.BranchTrees) → any_empty (branches_lowered (left_branches drop no_span bs)) ≡ branch_spans_empty drop bs
+    branches_empty : (bs : p.BranchTrees) → any_empty (branches_lowered (remaining_branches drop no_span bs)) ≡ branch_spans_empty drop bs
     branches_empty p.no_branches = refl
     branches_empty (p.branch s q bs) = branch_empty (drop s) s q bs (left_empty q) (branches_empty bs)

@@ -9,11 +9,11 @@ use Rattle.rl_syntax.specs.PatTree.{PatTree}
 use Rattle.rl_syntax.specs.Tree.{Tree}
 use Rattle.rl_pattern.specs.declared.flags.Flags.{Flags}
 use Rattle.rl_pattern.specs.declared.parsing.PatError.{PatError}
-use Rattle.rl_pattern.specs.Cut.{left}
+use Rattle.rl_pattern.specs.Cut.{remaining}
 use Rattle.rl_pattern.specs.Parsed.{IsParsed}
 use Rattle.rl_pattern.specs.Placed.{ArePlaced}
-use Rattle.rl_pattern.specs.Reread.{IsLeft, IsReread}
-use Rattle.rl_pattern.specs.Suggested.{Verdict, among, no_span, may_go, holds_guard, branches_in, merged_in, text_of, text_if, Tried, none_tried, left_alone, dropped_one, kept_one, passed_one}
+use Rattle.rl_pattern.specs.Reread.{IsRemaining, IsReread}
+use Rattle.rl_pattern.specs.Suggested.{Verdict, among, no_span, may_go, holds_guard, branches_in, merged_in, text_of, text_if, Tried, none_tried, left_alone, dropped_one, kept_one, undecided_one}
 use Rattle.rl_pattern.specs.Thinned.{kept_from}
 use Rattle.rl_pattern.proofs.Final.{right_text_found, right_text_reads}
 use Rattle.rl_pattern.proofs.ListedSpans.{branches_are_placed, merged_are_placed}
@@ -29,14 +29,14 @@ tried_dropped Answers body none_tried = none_fewer
 tried_dropped Answers body (left_alone h m) = left_out (tried_dropped Answers body h)
 tried_dropped Answers body (dropped_one h m a) = taken (tried_dropped Answers body h)
 tried_dropped Answers body (kept_one h m a) = left_out (tried_dropped Answers body h)
-tried_dropped Answers body (passed_one h m a) = left_out (tried_dropped Answers body h)
+tried_dropped Answers body (undecided_one h m a) = left_out (tried_dropped Answers body h)
 
 tried_passed : (Answers : Tree → Tree → Verdict → Type 0) (body : PatTree) {bs dropped passed : List Span} → Tried Answers body bs dropped passed → Fewer passed bs
 tried_passed Answers body none_tried = none_fewer
 tried_passed Answers body (left_alone h m) = left_out (tried_passed Answers body h)
 tried_passed Answers body (dropped_one h m a) = left_out (tried_passed Answers body h)
 tried_passed Answers body (kept_one h m a) = left_out (tried_passed Answers body h)
-tried_passed Answers body (passed_one h m a) = taken (tried_passed Answers body h)
+tried_passed Answers body (undecided_one h m a) = taken (tried_passed Answers body h)
 
 -- The codes where there is a text.
 some_text : (body : PatTree) (dropped merged : List Span) (codes text : List ℕ) → text_if body dropped merged codes ≡ Some text → text ≡ text_of body dropped merged codes
@@ -61,7 +61,7 @@ module _ (flags : Flags) (found : Pattern) (codes : List ℕ) (limit : ℕ) (par
     (may : may_go (among []) (body_of found) ≡ true)
     (guarded : holds_guard (body_of found) ≡ true → (dropped ≡ []) × (passed ≡ []))
     (tried : holds_guard (body_of found) ≡ false → AreTried (universe_of found) limit (body_of found) (branches_in (body_of found)) dropped passed)
-    (quantifiers : merged ≡ merged_in (left (among dropped) no_span (body_of found)))
+    (quantifiers : merged ≡ merged_in (remaining (among dropped) no_span (body_of found)))
     (spelled : text ≡ text_if (body_of found) dropped merged codes) where
   goes : may_go (among dropped) (body_of found) ≡ true
   goes = go (holds_guard (body_of found)) refl
@@ -70,22 +70,22 @@ module _ (flags : Flags) (found : Pattern) (codes : List ℕ) (limit : ℕ) (par
       go true e = ap (λ d. may_go (among d) (body_of found)) (guarded e).0 ∙ may
       go false e = (tried e).goes
 
-  alike : (new : Pattern) → IsLeft (among dropped) (among merged) found new → MatchesAlike found new
+  alike : (new : Pattern) → IsRemaining (among dropped) (among merged) found new → MatchesAlike found new
   alike new h = record {
     leading = h.leading;
     trailing = h.trailing;
     universe = h.universe;
-    matched_texts = texts_stay flags (universe_of found) codes found dropped parsed goes (λ e. (guarded e).0) (λ e. (tried e).language) new (subst (λ m. IsLeft (among dropped) (among m) found new) quantifiers h);
+    matched_texts = texts_stay flags (universe_of found) codes found dropped parsed goes (λ e. (guarded e).0) (λ e. (tried e).language) new (subst (λ m. IsRemaining (among dropped) (among m) found new) quantifiers h);
   }
 
-  spelling_is : (spelling : List ℕ) → text ≡ Some spelling → spelling ≡ text_of (body_of found) dropped (merged_in (left (among dropped) no_span (body_of found))) codes
+  spelling_is : (spelling : List ℕ) → text ≡ Some spelling → spelling ≡ text_of (body_of found) dropped (merged_in (remaining (among dropped) no_span (body_of found))) codes
   spelling_is spelling e =
       some_text (body_of found) dropped merged codes spelling (sym spelled ∙ e) ∙ ap (λ m. text_of (body_of found) dropped m codes) quantifiers
 
-  read_as : (spelling : List ℕ) → text ≡ Some spelling → (new : Pattern) × IsParsed flags (universe_of found) spelling (Ok new) × IsLeft (among dropped) (among merged) found new
+  read_as : (spelling : List ℕ) → text ≡ Some spelling → (new : Pattern) × IsParsed flags (universe_of found) spelling (Ok new) × IsRemaining (among dropped) (among merged) found new
   read_as spelling e =
       let h = right_text_found flags (universe_of found) codes found dropped parsed goes (λ x. (guarded x).0) in
-      (h.0, subst (λ w. IsParsed flags (universe_of found) w (Ok h.0)) (sym (spelling_is spelling e)) h.1, subst (λ m. IsLeft (among dropped) (among m) found h.0) (sym quantifiers) h.2)
+      (h.0, subst (λ w. IsParsed flags (universe_of found) w (Ok h.0)) (sym (spelling_is spelling e)) h.1, subst (λ m. IsRemaining (among dropped) (among m) found h.0) (sym quantifiers) h.2)
 
   reread : (spelling : List ℕ) → text ≡ Some spelling → (r : Result Pattern PatError) → IsParsed flags (universe_of found) spelling r → IsReread (among dropped) (among merged) found r
   reread spelling e r h =

@@ -9,9 +9,9 @@ use Rattle.rl_syntax.specs.declared.pat.Pat.TheFolds.{fold-roll-Pat}
 use Rattle.rl_syntax.specs.declared.pat.Pat.{Pat-F}
 use Rattle.rl_syntax.specs.PatTree.{PatTree, class, seq, choice, repeat, group, items_of, branches_of, pat_of, layer_of, branch_of}
 use Rattle.rl_syntax.specs.Counting.{branch_tree}
-use Rattle.rl_pattern.specs.Cut.{choice_of, left}
+use Rattle.rl_pattern.specs.Cut.{choice_of, remaining}
 use Rattle.rl_pattern.specs.Suggested.{no_span}
-use Rattle.rl_rewrite.specs.internal.LeftLists.{all_left, some_left}
+use Rattle.rl_rewrite.specs.internal.LeftLists.{all_remaining, some_remaining}
 use Rattle.rl_rewrite.proofs.LeftParts.{items_left, branches_left}
 
 pub seq-tree : (s : Span) (ps : List Pat) → pat_of (V.Seq s ps) ≡ seq s (items_of (map pat_of ps))
@@ -30,22 +30,22 @@ pub group-tree : (s : Span) (captures : Bool) (b : Box Pat Global) → pat_of (V
 group-tree s captures b = ap pat_of (sym (V.rolls-Group s captures b)) ∙ fold-roll-Pat PatTree (Span × PatTree) layer_of branch_of (Pat-F.Group s captures b)
 
 -- What is left of a part that holds no other.
-pub leaf_left : (drop : Span → Bool) (p : Pat) (t : PatTree) (part : Pat) → part ≡ p → pat_of p ≡ t → left drop no_span t ≡ t → pat_of p ≡ left drop no_span (pat_of part)
-leaf_left drop p t part e f g = f ∙ sym (ap (left drop no_span) (ap pat_of e ∙ f) ∙ g)
+pub leaf_left : (drop : Span → Bool) (p : Pat) (t : PatTree) (part : Pat) → part ≡ p → pat_of p ≡ t → remaining drop no_span t ≡ t → pat_of p ≡ remaining drop no_span (pat_of part)
+leaf_left drop p t part e f g = f ∙ sym (ap (remaining drop no_span) (ap pat_of e ∙ f) ∙ g)
 
 -- A sequence of what is left of the items is what is left of the sequence.
-pub seq_left : (drop : Span → Bool) (s : Span) (ps found : List Pat) (part : Pat) → part ≡ V.Seq s ps → map pat_of found ≡ all_left drop (map pat_of ps) → pat_of (V.Seq s found) ≡ left drop no_span (pat_of part)
+pub seq_left : (drop : Span → Bool) (s : Span) (ps found : List Pat) (part : Pat) → part ≡ V.Seq s ps → map pat_of found ≡ all_remaining drop (map pat_of ps) → pat_of (V.Seq s found) ≡ remaining drop no_span (pat_of part)
 seq_left drop s ps found part e f =
     seq-tree s found
     ∙ ap (λ qs. seq s (items_of qs)) f
     ∙ ap (seq s) (items_left drop (map pat_of ps))
-    ∙ sym (ap (left drop no_span) (ap pat_of e ∙ seq-tree s ps))
+    ∙ sym (ap (remaining drop no_span) (ap pat_of e ∙ seq-tree s ps))
 
 -- And the same of a choice.
-pub choice_left : (drop : Span → Bool) (s : Span) (bs found : List Branch) (part result : Pat) → part ≡ V.Choice s bs → map branch_tree found ≡ some_left drop (map branch_tree bs)
-    → pat_of result ≡ choice_of s (branches_of (map branch_tree found)) → pat_of result ≡ left drop no_span (pat_of part)
+pub choice_left : (drop : Span → Bool) (s : Span) (bs found : List Branch) (part result : Pat) → part ≡ V.Choice s bs → map branch_tree found ≡ some_remaining drop (map branch_tree bs)
+    → pat_of result ≡ choice_of s (branches_of (map branch_tree found)) → pat_of result ≡ remaining drop no_span (pat_of part)
 choice_left drop s bs found part result e f g =
     g
     ∙ ap (λ cs. choice_of s (branches_of cs)) f
     ∙ ap (choice_of s) (branches_left drop (map branch_tree bs))
-    ∙ sym (ap (left drop no_span) (ap pat_of e ∙ choice-tree s bs))
+    ∙ sym (ap (remaining drop no_span) (ap pat_of e ∙ choice-tree s bs))

@@ -11,7 +11,7 @@ use Rattle.rl_syntax.specs.declared.pat.Pat.{Pat}
 use Rattle.rl_syntax.specs.declared.pat.Branch.{Branch}
 use Rattle.rl_syntax.specs.declared.pat.Pat.TheVariants as V
 use Rattle.rl_pattern.specs.declared.flags.Flags.{Flags}
-use Rattle.rl_pattern.specs.Cut.{left, left_items}
+use Rattle.rl_pattern.specs.Cut.{remaining, remaining_items}
 use Rattle.rl_pattern.specs.Suggested.{among, no_span, holds_capture, some_capture, branches_in, items_branches, choice_branches, is_allowed, merged_in, items_merged, under, merged_at, inside, Tried, none_tried}
 use Rattle.rl_pattern.proofs.Linking.{or_none}
 use Rattle.rl_rewrite.specs.Plain.{IsPlain, empty_suggestion}
@@ -83,7 +83,7 @@ mutual
 
 -- Where nothing is dropped, what is left holds the same groups that capture.
 mutual
-  captures_left : (p : PatTree) → branches_in p ≡ [] → holds_capture (left (among []) no_span p) ≡ holds_capture p
+  captures_left : (p : PatTree) → branches_in p ≡ [] → holds_capture (remaining (among []) no_span p) ≡ holds_capture p
   captures_left (nothing s) h = refl
   captures_left (class s set) h = refl
   captures_left (seq s ps) h = some_captures ps h
@@ -95,15 +95,15 @@ mutual
   captures_left (boundary s n a) h = refl
   captures_left (outside s f) h = refl
 
-  some_captures : (ps : PatTrees) → items_branches ps ≡ [] → some_capture (left_items (among []) no_span ps) ≡ some_capture ps
+  some_captures : (ps : PatTrees) → items_branches ps ≡ [] → some_capture (remaining_items (among []) no_span ps) ≡ some_capture ps
   some_captures no_items h = refl
   some_captures (item p ps) h =
-      ap (λ b. b || some_capture (left_items (among []) no_span ps)) (captures_left p (none_first (branches_in p) (items_branches ps) h))
+      ap (λ b. b || some_capture (remaining_items (among []) no_span ps)) (captures_left p (none_first (branches_in p) (items_branches ps) h))
       ∙ ap (λ b. holds_capture p || b) (some_captures ps (none_last (branches_in p) (items_branches ps) h))
 
 -- And the same quantifiers are taken out of it.
 mutual
-  pub merged_left : (p : PatTree) → branches_in p ≡ [] → merged_in (left (among []) no_span p) ≡ merged_in p
+  pub merged_left : (p : PatTree) → branches_in p ≡ [] → merged_in (remaining (among []) no_span p) ≡ merged_in p
   merged_left (nothing s) h = refl
   merged_left (class s set) h = refl
   merged_left (seq s ps) h = items_left ps h
@@ -115,13 +115,13 @@ mutual
   merged_left (boundary s n a) h = refl
   merged_left (outside s f) h = refl
 
-  items_left : (ps : PatTrees) → items_branches ps ≡ [] → items_merged (left_items (among []) no_span ps) ≡ items_merged ps
+  items_left : (ps : PatTrees) → items_branches ps ≡ [] → items_merged (remaining_items (among []) no_span ps) ≡ items_merged ps
   items_left no_items h = refl
   items_left (item p ps) h =
-      ap (λ xs. xs ++ items_merged (left_items (among []) no_span ps)) (merged_left p (none_first (branches_in p) (items_branches ps) h))
+      ap (λ xs. xs ++ items_merged (remaining_items (among []) no_span ps)) (merged_left p (none_first (branches_in p) (items_branches ps) h))
       ∙ ap (λ xs. merged_in p ++ xs) (items_left ps (none_last (branches_in p) (items_branches ps) h))
 
-  under_left : (p : PatTree) (least : ℕ) (most : Option ℕ) → branches_in p ≡ [] → merged_at (under least most) (left (among []) no_span p) ≡ merged_at (under least most) p
+  under_left : (p : PatTree) (least : ℕ) (most : Option ℕ) → branches_in p ≡ [] → merged_at (under least most) (remaining (among []) no_span p) ≡ merged_at (under least most) p
   under_left (nothing s) least most h = refl
   under_left (class s set) least most h = refl
   under_left (seq s ps) least most h = items_left ps h
@@ -133,14 +133,14 @@ mutual
   under_left (boundary s n a) least most h = refl
   under_left (outside s f) least most h = refl
 
-  inside_left : (p : PatTree) (c : Bool) (least : ℕ) (most : Option ℕ) → branches_in p ≡ [] → merged_at (inside c least most) (left (among []) no_span p) ≡ merged_at (inside c least most) p
+  inside_left : (p : PatTree) (c : Bool) (least : ℕ) (most : Option ℕ) → branches_in p ≡ [] → merged_at (inside c least most) (remaining (among []) no_span p) ≡ merged_at (inside c least most) p
   inside_left (nothing s) c least most h = refl
   inside_left (class s set) c least most h = refl
   inside_left (seq s ps) c least most h = items_left ps h
   inside_left (choice s no_branches) c least most h = refl
   inside_left (choice s (branch r p bs)) c least most h = absurd (some_none r (branches_in p ++ choice_branches bs) h)
   inside_left (repeat s q l m g p) c least most h =
-      ap (λ xs. if not c && (not (holds_capture (left (among []) no_span p)) && is_allowed l m least most) then xs ++ q ∷ [] else xs) (under_left p l m h)
+      ap (λ xs. if not c && (not (holds_capture (remaining (among []) no_span p)) && is_allowed l m least most) then xs ++ q ∷ [] else xs) (under_left p l m h)
       ∙ ap (λ b. if not c && (not b && is_allowed l m least most) then merged_at (under l m) p ++ q ∷ [] else merged_at (under l m) p) (captures_left p h)
   inside_left (group s d p) c least most h = merged_left p h
   inside_left (anchor s k m) c least most h = refl

@@ -7,7 +7,7 @@ use Rattle.rl_ranges.specs.declared.universe.Universe.{Universe}
 use Rattle.rl_syntax.specs.declared.span.Span.{Span}
 use Rattle.rl_syntax.specs.PatTree.{PatTree}
 use Rattle.rl_equiv.proofs.DifferLaws.{differences-tell}
-use Rattle.rl_pattern.specs.Suggested.{same_span, among, without, Tried, none_tried, left_alone, dropped_one, kept_one, passed_one}
+use Rattle.rl_pattern.specs.Suggested.{same_span, among, without, Tried, none_tried, left_alone, dropped_one, kept_one, undecided_one}
 use Rattle.rl_rewrite.specs.Settled.{IsSettled, is_dropped, is_passed, is_left_alone, is_needed}
 use Rattle.rl_rewrite.specs.Verdicts.{IsVerdict}
 
@@ -47,6 +47,6 @@ module _ (u : Universe) (body : PatTree) where
   all_settled limit (kept_one {bs = bs} {dropped = dropped} {passed = passed} {b = b} h m a) =
       let t = differences-tell u (without dropped body) (without (b ∷ dropped) body) limit a in
       All-cons (IsSettled u body dropped passed) b bs (is_needed [] dropped t.0 refl t.1) (all_settled limit h)
-  all_settled limit (passed_one {bs = bs} {dropped = dropped} {passed = passed} {b = b} h m a) =
+  all_settled limit (undecided_one {bs = bs} {dropped = dropped} {passed = passed} {b = b} h m a) =
       All-cons (IsSettled u body dropped (b ∷ passed)) b bs (is_passed (first_among b passed))
       (all_more (IsSettled u body dropped passed) (IsSettled u body dropped (b ∷ passed)) bs (more_passed dropped passed b) (all_settled limit h))

@@ -4,11 +4,11 @@ use Rattle.rl_ranges.specs.declared.universe.Universe.{Universe}
 use Rattle.rl_syntax.specs.declared.span.Span.{Span}
 use Rattle.rl_syntax.specs.PatTree.{PatTree}
 use Rattle.rl_syntax.specs.Tree.{Tree}
-use Rattle.rl_pattern.specs.Suggested.{among, may_go, without, none_tried, left_alone, dropped_one, kept_one, passed_one, equal, apart, passed_by}
+use Rattle.rl_pattern.specs.Suggested.{among, may_go, without, none_tried, left_alone, dropped_one, kept_one, undecided_one, equal, apart, undecided}
 use Rattle.rl_rewrite.specs.Verdicts.{IsVerdict}
 use Rattle.rl_rewrite.specs.declared.trial.Trial.{Trial}
 use Rattle.rl_rewrite.specs.declared.trial.Trial.TheVariants.{Equal}
-use Rattle.rl_rewrite.specs.internal.Trials.{verdict_of, IsTold, AreTried}
+use Rattle.rl_rewrite.specs.internal.Trials.{verdict_of, IsTrueTrial, AreTried}
 
 module _ (u : Universe) (limit : ℕ) (body : PatTree) where
   pub none : may_go (among []) body ≡ true → AreTried u limit body [] [] []
@@ -18,12 +18,12 @@ module _ (u : Universe) (limit : ℕ) (body : PatTree) where
     pub alone : may_go (among more) body ≡ false → (passed bs : List Span) → AreTried u limit body bs dropped passed → AreTried u limit body (b ∷ bs) dropped passed
     alone h passed bs t = record { tried = left_alone t.tried (subst (λ m. may_go (among m) body ≡ false) e h); goes = t.goes; language = t.language }
 
-    pub equal_one : may_go (among more) body ≡ true → IsVerdict u limit (without dropped body) (without more body) equal → IsTold u (without dropped body) (without more body) Equal → (passed bs : List Span) → AreTried u limit body bs dropped passed → AreTried u limit body (b ∷ bs) more passed
+    pub equal_one : may_go (among more) body ≡ true → IsVerdict u limit (without dropped body) (without more body) equal → IsTrueTrial u (without dropped body) (without more body) Equal → (passed bs : List Span) → AreTried u limit body bs dropped passed → AreTried u limit body (b ∷ bs) more passed
     equal_one h v told passed bs t =
         subst (λ m. AreTried u limit body (b ∷ bs) m passed) (sym e) (record {
           tried = dropped_one t.tried (subst (λ m. may_go (among m) body ≡ true) e h) (subst (λ m. IsVerdict u limit (without dropped body) (without m body) equal) e v);
           goes = subst (λ m. may_go (among m) body ≡ true) e h;
-          language = λ w is. let x = t.language w is in let y = subst (λ m. IsTold u (without dropped body) (without m body) Equal) e told w is in (λ z. y.0 (x.0 z), λ z. x.1 (y.1 z));
+          language = λ w is. let x = t.language w is in let y = subst (λ m. IsTrueTrial u (without dropped body) (without m body) Equal) e told w is in (λ z. y.0 (x.0 z), λ z. x.1 (y.1 z));
         })
 
     pub apart_one : may_go (among more) body ≡ true → IsVerdict u limit (without dropped body) (without more body) apart → (passed bs : List Span) → AreTried u limit body bs dropped passed → AreTried u limit body (b ∷ bs) dropped passed
@@ -33,9 +33,9 @@ module _ (u : Universe) (limit : ℕ) (body : PatTree) where
       language = t.language;
     }
 
-    pub passed_next : may_go (among more) body ≡ true → IsVerdict u limit (without dropped body) (without more body) passed_by → (passed all bs : List Span) → all ≡ b ∷ passed → AreTried u limit body bs dropped passed → AreTried u limit body (b ∷ bs) dropped all
+    pub passed_next : may_go (among more) body ≡ true → IsVerdict u limit (without dropped body) (without more body) undecided → (passed all bs : List Span) → all ≡ b ∷ passed → AreTried u limit body bs dropped passed → AreTried u limit body (b ∷ bs) dropped all
     passed_next h v passed all bs f t = subst (AreTried u limit body (b ∷ bs) dropped) (sym f) (record {
-      tried = passed_one t.tried (subst (λ m. may_go (among m) body ≡ true) e h) (subst (λ m. IsVerdict u limit (without dropped body) (without m body) passed_by) e v);
+      tried = undecided_one t.tried (subst (λ m. may_go (among m) body ≡ true) e h) (subst (λ m. IsVerdict u limit (without dropped body) (without m body) undecided) e v);
       goes = t.goes;
       language = t.language;
     })
@@ -58,5 +58,5 @@ module _ (u v : Universe) (limit : ℕ) (body : PatTree) (dropped more m : List 
   pub verdict_found : IsVerdict v limit s t (verdict_of found) → IsVerdict u limit (without dropped body) (without more body) (verdict_of is)
   verdict_found h = subst (λ x. IsVerdict u limit (without dropped body) (without x body) (verdict_of is)) d (subst (λ x. IsVerdict u limit (without dropped body) x (verdict_of is)) c (subst (λ x. IsVerdict u limit x t (verdict_of is)) b (subst (λ x. IsVerdict x limit s t (verdict_of is)) a (subst (λ x. IsVerdict v limit s t (verdict_of x)) e h))))
 
-  pub told_found : IsTold v s t found → IsTold u (without dropped body) (without more body) is
-  told_found h = subst (λ x. IsTold u (without dropped body) (without x body) is) d (subst (λ x. IsTold u (without dropped body) x is) c (subst (λ x. IsTold u x t is) b (subst (λ x. IsTold x s t is) a (subst (λ x. IsTold v s t x) e h))))
+  pub told_found : IsTrueTrial v s t found → IsTrueTrial u (without dropped body) (without more body) is
+  told_found h = subst (λ x. IsTrueTrial u (without dropped body) (without x body) is) d (subst (λ x. IsTrueTrial u (without dropped body) x is) c (subst (λ x. IsTrueTrial u x t is) b (subst (λ x. IsTrueTrial x s t is) a (subst (λ x. IsTrueTrial v s t x) e h))))

@@ -10,7 +10,7 @@ use Rattle.rl_syntax.specs.Tree.{size}
 use Rattle.rl_ranges.specs.declared.letters.TheConstants.{MOST_LETTERS}
 use Rattle.rl_syntax.specs.declared.limits.TheConstants.{MOST_NODES}
 use Rattle.rl_prio.specs.Letters.{all_sets}
-use Rattle.rl_equiv.specs.Bases.{TellsNoMore}
+use Rattle.rl_equiv.specs.Bases.{DistinguishesNoMore}
 use Rattle.rl_equiv.specs.Limits.{AreWithin, IsWithin}
 use Rattle.rl_pattern.specs.Suggested.{same_span, among, no_span, may_go, without}
 use Rattle.rl_rewrite.proofs.Fewer.{Fewer, fewer_nodes, fewer_moves, left_fewer}
@@ -45,7 +45,7 @@ left_within u dropped body w may =
     }
 
 -- What is left after one more branch is dropped distinguishes no more codes.
-pub trial_letters : (b : Span) (dropped : List Span) (body : PatTree) → may_go (among (b ∷ dropped)) body ≡ true → TellsNoMore (without dropped body) (without (b ∷ dropped) body)
+pub trial_letters : (b : Span) (dropped : List Span) (body : PatTree) → may_go (among (b ∷ dropped)) body ≡ true → DistinguishesNoMore (without dropped body) (without (b ∷ dropped) body)
 trial_letters b dropped body more = all_fewer (left_fewer (among dropped) (among (b ∷ dropped)) no_span (one_more b dropped) body more)
 
 pub trial_within : (u : Universe) (b : Span) (dropped : List Span) (body : PatTree) → IsWithin u (lowered body) → may_go (among dropped) body ≡ true → may_go (among (b ∷ dropped)) body ≡ true → AreWithin u (without dropped body) (without (b ∷ dropped) body)

@@ -1,4 +1,6 @@
-//! The branches of a pattern, and whether some of them may be dropped.
+//! The branches of a pattern, and whether the rules allow some of them to be dropped. A branch is identified by its span. The
+//! rules allow branches to be dropped if none of them contains a capturing group and each remaining choice keeps at least one
+//! branch.
 
 ghost use Rattle.std.specs.Prelude.{◌≡◌, ◌∷◌, [], ◌++◌, map, IfOk, OnOk};
 ghost use Rattle.rl_syntax.specs.PatTree.{pat_of, items_of, branches_of};
@@ -12,7 +14,8 @@ use rl_lists::OutOfMemory;
 use rl_syntax::{Branch, Pat, Span, Spans};
 use std::alloc::Global;
 
-/// Appends the spans of the branches of a part, in the order of their places.
+/// Appends to `found` the spans of all branches in a part, in the order in which they begin, so that a branch is before the
+/// branches inside it.
 #[cycle(branches)]
 fn put_branches(part: &Pat, found: &mut Spans) -> Result<(), OutOfMemory>
     ensures { OnOk result (found.new ≡ found.old ++ branches_in (pat_of part.now)) }
@@ -29,7 +32,7 @@ fn put_branches(part: &Pat, found: &mut Spans) -> Result<(), OutOfMemory>
     }
 }
 
-/// Appends the spans of the branches of the items.
+/// Appends to `found` the spans of all branches in the items, item by item.
 #[cycle(branches)]
 fn put_items_branches(items: &[Pat], found: &mut Spans) -> Result<(), OutOfMemory>
     ensures { OnOk result (found.new ≡ found.old ++ items_branches (items_of (map pat_of items.now))) }
@@ -40,7 +43,7 @@ fn put_items_branches(items: &[Pat], found: &mut Spans) -> Result<(), OutOfMemor
     Ok(())
 }
 
-/// Appends the spans of the branches of a choice, and of the branches inside them.
+/// Appends to `found` the spans of the branches of a choice, each followed by the spans of the branches inside it.
 #[cycle(branches)]
 fn put_choice_branches(branches: &[Branch], found: &mut Spans) -> Result<(), OutOfMemory>
     ensures { OnOk result (found.new ≡ found.old ++ choice_branches (branches_of (map branch_tree branches.now))) }
@@ -52,7 +55,8 @@ fn put_choice_branches(branches: &[Branch], found: &mut Spans) -> Result<(), Out
     Ok(())
 }
 
-/// Returns the spans of the branches of a part, in the order of their places.
+/// Returns the spans of all branches in a part, in the order in which they begin, so that a branch is before the branches
+/// inside it.
 pub(crate) fn all_branches(alloc: Global, part: &Pat) -> Result<Spans, OutOfMemory>
     ensures { IfOk result (λ all. all ≡ branches_in (pat_of part.now)) }
 {
@@ -61,8 +65,7 @@ pub(crate) fn all_branches(alloc: Global, part: &Pat) -> Result<Spans, OutOfMemo
     Ok(all)
 }
 
-/// Whether the branches whose spans are in `dropped` may be dropped from a part: none of them contains a capturing group, and
-/// each remaining choice keeps at least one branch.
+/// Returns whether the rules allow the branches whose spans are in `dropped` to be dropped from a part.
 #[cycle(going)]
 pub(crate) fn may_go(part: &Pat, dropped: &[Span]) -> bool
     ensures { result ≡ goes (lies_among dropped.now) (pat_of part.now) }
@@ -82,7 +85,7 @@ pub(crate) fn may_go(part: &Pat, dropped: &[Span]) -> bool
     }
 }
 
-/// Whether these branches may be dropped from the items.
+/// Returns whether the rules allow the branches whose spans are in `dropped` to be dropped from each of the items.
 #[cycle(going)]
 fn items_may_go(items: &[Pat], dropped: &[Span]) -> bool
     ensures { result ≡ items_go (lies_among dropped.now) (items_of (map pat_of items.now)) }
@@ -90,6 +93,7 @@ fn items_may_go(items: &[Pat], dropped: &[Span]) -> bool
     let mut all = true;
     for item in items {
         match item {
+            // A class contains no branch, so the call is saved.
             Pat::Class { .. } => {}
             _ => all = may_go(item, dropped) && all,
         }
@@ -97,8 +101,8 @@ fn items_may_go(items: &[Pat], dropped: &[Span]) -> bool
     all
 }
 
-/// Whether these branches may be dropped from a choice, as far as its branches are concerned, without regard to how many
-/// remain.
+/// Returns whether `branch_may_go` returns true for each branch of a choice. Whether the choice keeps a branch isn't looked
+/// at.
 #[cycle(going)]
 fn branches_may_go(branches: &[Branch], dropped: &[Span]) -> bool
     ensures { result ≡ branches_go (lies_among dropped.now) (branches_of (map branch_tree branches.now)) }
@@ -110,7 +114,8 @@ fn branches_may_go(branches: &[Branch], dropped: &[Span]) -> bool
     all
 }
 
-/// Whether the branch may be dropped if it is to be dropped, or otherwise whether branches inside it may be dropped.
+/// Returns whether the branch contains no capturing group, if it is one of the dropped branches. Otherwise, returns whether
+/// the rules allow the dropped branches inside it to be dropped.
 #[cycle(going)]
 fn branch_may_go(branch: &Branch, dropped: &[Span]) -> bool
     ensures { result ≡ branches_go (lies_among dropped.now) (branches_of (map branch_tree (branch.now ∷ []))) }
@@ -122,7 +127,7 @@ fn branch_may_go(branch: &Branch, dropped: &[Span]) -> bool
     }
 }
 
-/// Whether at least one branch remains.
+/// Returns whether at least one of the branches isn't in `dropped`.
 pub(crate) fn some_kept(branches: &[Branch], dropped: &[Span]) -> bool
     ensures { result ≡ is_kept (lies_among dropped.now) (branches_of (map branch_tree branches.now)) }
 {

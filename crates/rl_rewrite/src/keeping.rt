@@ -1,10 +1,14 @@
 //! The places of a part that are kept if one more branch is dropped.
+//!
+//! The places of a part are the leaves, each of which matches one code, of the tree to which it is lowered. `dropped` has the
+//! spans of the branches that are dropped already, and `gone` is the span of the branch to be dropped next. A repeat is
+//! lowered to several copies of its body.
 
 ghost use Rattle.std.specs.Prelude.{◌≡◌, ◌∷◌, [], ◌++◌, List, true, map, IfOk, OnOk, IfSome};
 ghost use Rattle.rl_syntax.specs.PatTree.{pat_of, items_of, branches_of};
 ghost use Rattle.rl_syntax.specs.Counting.{branch_tree};
 ghost use Rattle.rl_syntax.specs.Lowering.{lowered};
-ghost use Rattle.rl_pattern.specs.Cut.{left};
+ghost use Rattle.rl_pattern.specs.Cut.{remaining};
 ghost use Rattle.rl_pattern.specs.Suggested.{among as lies_among, same_span, no_span, may_go as goes};
 ghost use Rattle.rl_trim.specs.Without.{Without};
 ghost use Rattle.rl_rewrite.specs.internal.Keeping.{copies as copies_of, repeated};
@@ -18,17 +22,18 @@ use rl_lists::{Items, OutOfMemory};
 use rl_syntax::{Branch, Pat, Span};
 use std::alloc::Global;
 
-/// A flag for each place, from left to right.
+/// A flag for each place, from left to right, which says whether the place is kept.
 pub(crate) type Flags = Items<bool>;
 
-/// Whether two spans are the same.
+/// Returns whether two spans are the same.
 fn is_same(first: Span, second: Span) -> bool
     ensures { result ≡ same_span first second }
 {
     first == second
 }
 
-/// Whether the part, without the branches whose spans are in `dropped`, may span the empty text.
+/// Returns whether what is left of a part without the dropped branches may span the empty text. Anchors, boundaries and
+/// features that aren't judged (`Outside`) count as spanning it, and so does a choice without branches.
 #[cycle(empty)]
 fn may_be_empty(part: &Pat, dropped: &[Span]) -> bool
     ensures { result ≡ spans_empty (lies_among dropped.now) (pat_of part.now) }
@@ -47,7 +52,7 @@ fn may_be_empty(part: &Pat, dropped: &[Span]) -> bool
     }
 }
 
-/// Whether all items may span the empty text.
+/// Returns whether all items, without the dropped branches, may span the empty text.
 #[cycle(empty)]
 fn items_may_be_empty(items: &[Pat], dropped: &[Span]) -> bool
     ensures { result ≡ items_span_empty (lies_among dropped.now) (items_of (map pat_of items.now)) }
@@ -59,7 +64,7 @@ fn items_may_be_empty(items: &[Pat], dropped: &[Span]) -> bool
     all
 }
 
-/// Whether one of the remaining branches may span the empty text.
+/// Returns whether at least one of the branches isn't dropped and may span the empty text.
 #[cycle(empty)]
 fn branches_may_be_empty(branches: &[Branch], dropped: &[Span]) -> bool
     ensures { result ≡ branch_spans_empty (lies_among dropped.now) (branches_of (map branch_tree branches.now)) }
@@ -71,7 +76,7 @@ fn branches_may_be_empty(branches: &[Branch], dropped: &[Span]) -> bool
     some
 }
 
-/// Whether the branch remains and may span the empty text.
+/// Returns whether the branch isn't dropped and may span the empty text.
 #[cycle(empty)]
 fn branch_may_be_empty(branch: &Branch, dropped: &[Span]) -> bool
     ensures { result ≡ branch_spans_empty (lies_among dropped.now) (branches_of (map branch_tree (branch.now ∷ []))) }
@@ -83,7 +88,7 @@ fn branch_may_be_empty(branch: &Branch, dropped: &[Span]) -> bool
     }
 }
 
-/// Whether a remaining branch whose span is `gone` may span the empty text.
+/// Returns whether the part has a branch with the span `gone`, outside all dropped branches, that may span the empty text.
 #[cycle(losing)]
 fn may_lose_empty(part: &Pat, dropped: &[Span], gone: Span) -> bool
     ensures { result ≡ loses_empty (lies_among dropped.now) gone (pat_of part.now) }
@@ -100,7 +105,8 @@ fn may_lose_empty(part: &Pat, dropped: &[Span], gone: Span) -> bool
     }
 }
 
-/// Whether one of the items has a remaining branch with the span `gone` that may span the empty text.
+/// Returns whether one of the items has a branch with the span `gone`, outside all dropped branches, that may span the empty
+/// text.
 #[cycle(losing)]
 fn items_may_lose_empty(items: &[Pat], dropped: &[Span], gone: Span) -> bool
     ensures { result ≡ items_lose_empty (lies_among dropped.now) gone (items_of (map pat_of items.now)) }
@@ -108,6 +114,7 @@ fn items_may_lose_empty(items: &[Pat], dropped: &[Span], gone: Span) -> bool
     let mut some = false;
     for item in items {
         match item {
+            // A class contains no branch, so the call is saved.
             Pat::Class { .. } => {}
             _ => some = may_lose_empty(item, dropped, gone) || some,
         }
@@ -115,7 +122,8 @@ fn items_may_lose_empty(items: &[Pat], dropped: &[Span], gone: Span) -> bool
     some
 }
 
-/// Whether one of the branches, or a branch inside them, remains, has the span `gone` and may span the empty text.
+/// Returns whether one of these branches, or of the branches inside them, has the span `gone`, is outside all dropped branches
+/// and may span the empty text.
 #[cycle(losing)]
 fn branches_may_lose_empty(branches: &[Branch], dropped: &[Span], gone: Span) -> bool
     ensures { result ≡ branches_lose_empty (lies_among dropped.now) gone (branches_of (map branch_tree branches.now)) }
@@ -127,7 +135,8 @@ fn branches_may_lose_empty(branches: &[Branch], dropped: &[Span], gone: Span) ->
     some
 }
 
-/// Whether the branch, or a branch inside it, remains, has the span `gone` and may span the empty text.
+/// Returns whether this branch, or a branch inside it, has the span `gone`, is outside all dropped branches and may span the
+/// empty text.
 #[cycle(losing)]
 fn branch_may_lose_empty(branch: &Branch, dropped: &[Span], gone: Span) -> bool
     ensures { result ≡ branches_lose_empty (lies_among dropped.now) gone (branches_of (map branch_tree (branch.now ∷ []))) }
@@ -142,7 +151,8 @@ fn branch_may_lose_empty(branch: &Branch, dropped: &[Span], gone: Span) -> bool
     }
 }
 
-/// Returns the number of copies of its body that a repeat is lowered to.
+/// Returns the number of copies of its body to which a repeat is lowered: the greater of its two bounds, or one more than its
+/// lower bound if it has no upper bound.
 fn copies(min: u32, max: Option<u32>) -> u64
     ensures { result ≡ copies_of min max }
 {
@@ -152,7 +162,7 @@ fn copies(min: u32, max: Option<u32>) -> u64
     }
 }
 
-/// Appends `times` copies of the flags.
+/// Appends the list of flags to `found`, `times` times.
 fn put_copies(flags: &[bool], times: u64, found: &mut Vec<bool>) -> Result<(), OutOfMemory>
     ensures { OnOk result (found.new.items ≡ found.old.items ++ repeated times flags.now) }
 {
@@ -162,8 +172,9 @@ fn put_copies(flags: &[bool], times: u64, found: &mut Vec<bool>) -> Result<(), O
     Ok(())
 }
 
-/// Appends, for each place of what is left of a part, whether it is kept if the branches with the span `gone` are dropped
-/// too. `keep` is false if the part itself is in such a branch.
+/// Appends to `found` a flag for each place of what is left of a part without the dropped branches, which says whether the
+/// place is kept if the branch with the span `gone` is dropped too. `keep` is false if the part is inside this branch; then
+/// all flags are false.
 #[cycle(keeping)]
 fn put_flags(
     alloc: Global,
@@ -203,7 +214,7 @@ fn put_flags(
     }
 }
 
-/// Appends the flags of the items.
+/// Appends the flags of the places of the items, as `put_flags` does.
 #[cycle(keeping)]
 fn put_items_flags(
     alloc: Global,
@@ -217,6 +228,7 @@ fn put_items_flags(
 {
     for item in items {
         match item {
+            // A class has one place, so the call is saved.
             Pat::Class { .. } => found.push(keep)?,
             _ => put_flags(alloc, item, dropped, gone, keep, found)?,
         }
@@ -224,7 +236,7 @@ fn put_items_flags(
     Ok(())
 }
 
-/// Appends the flags of the remaining branches.
+/// Appends the flags of the places of the branches that aren't dropped, as `put_flags` does.
 #[cycle(keeping)]
 fn put_branches_flags(
     alloc: Global,
@@ -245,8 +257,9 @@ fn put_branches_flags(
     Ok(())
 }
 
-/// Returns, for each place of what is left of a part without the dropped branches, whether it is kept if `branch` is dropped
-/// too. Returns `None` if that branch may span the empty text.
+/// Returns a flag for each place of what is left of a part without the dropped branches, which says whether the place is kept
+/// if the branch with the span `branch` is dropped too. Returns `None` if this branch may span the empty text. The rules must
+/// allow `branch` and the dropped branches to be dropped.
 pub(crate) fn kept_places(
     alloc: Global,
     part: &Pat,
@@ -254,8 +267,8 @@ pub(crate) fn kept_places(
     branch: Span,
 ) -> Result<Option<Flags>, OutOfMemory>
     requires may { goes (lies_among (branch ∷ dropped.now)) (pat_of part.now) ≡ true }
-    ensures { IfOk result (λ o. IfSome o (λ keep. Without keep (lowered (left (lies_among (branch ∷ dropped.now)) no_span (pat_of part.now)))
-        (lowered (left (lies_among dropped.now) no_span (pat_of part.now))))) }
+    ensures { IfOk result (λ o. IfSome o (λ keep. Without keep (lowered (remaining (lies_among (branch ∷ dropped.now)) no_span (pat_of part.now)))
+        (lowered (remaining (lies_among dropped.now) no_span (pat_of part.now))))) }
 {
     if may_lose_empty(part, dropped, branch) {
         return Ok(None);

@@ -1,4 +1,5 @@
-//! A pattern without some of its branches.
+//! What is left of a pattern without some of its branches, which are identified by their spans. A choice with one branch left
+//! becomes the body of this branch, and a choice with none left becomes the empty pattern.
 
 ghost use Rattle.std.specs.Prelude.{◌≡◌, ◌≤◌, ◌++◌, false, map, IfOk, OnOk};
 ghost use Rattle.rl_syntax.specs.PatTree.{pat_of, branches_of};
@@ -6,8 +7,8 @@ ghost use Rattle.rl_syntax.specs.PatTree as p;
 ghost use Rattle.rl_syntax.specs.Counting.{branch_tree};
 ghost use Rattle.rl_syntax.specs.Pattern.{body_of, universe_of};
 ghost use Rattle.rl_syntax.specs.Tree.{tree_of, size, IsOver};
-ghost use Rattle.rl_pattern.specs.Cut.{choice_of as is_choice_of, left};
-ghost use Rattle.rl_rewrite.specs.internal.LeftLists.{all_left, some_left};
+ghost use Rattle.rl_pattern.specs.Cut.{choice_of as is_choice_of, remaining};
+ghost use Rattle.rl_rewrite.specs.internal.LeftLists.{all_remaining, some_remaining};
 ghost use Rattle.rl_pattern.specs.Suggested.{among as lies_among, no_span, holds_guard, without};
 ghost use Rattle.rl_syntax.specs.declared.limits.TheConstants.{MOST_NODES};
 
@@ -16,7 +17,7 @@ use rl_lists::OutOfMemory;
 use rl_syntax::{Branch, Branches, LowerError, Mode, Pat, Pats, Pattern, Re, Span, lower};
 use std::alloc::Global;
 
-/// Makes a repeat of a body.
+/// Returns the repeat of a body with the given values; `mark` is the span of the quantifier.
 fn repeat_of(
     alloc: Global,
     span: Span,
@@ -39,7 +40,7 @@ fn repeat_of(
     })
 }
 
-/// Makes a group with a body.
+/// Returns the group with the given span and body; `captures` says whether it captures.
 fn group_of(alloc: Global, span: Span, captures: bool, body: Pat) -> Result<Pat, OutOfMemory>
     ensures { IfOk result (λ part. pat_of part ≡ p.group span captures (pat_of body)) }
 {
@@ -51,15 +52,15 @@ fn group_of(alloc: Global, span: Span, captures: bool, body: Pat) -> Result<Pat,
     })
 }
 
-/// Makes a branch with a span.
+/// Returns the branch with the given span and body.
 fn branch_at(span: Span, body: Pat) -> Branch
     ensures { branch_tree result ≡ (span, pat_of body) }
 {
     Branch { span, body }
 }
 
-/// Makes a choice of branches. If there is only one branch, the result is the body of that branch; if there is none, it is
-/// the empty pattern.
+/// Returns the choice of the given branches. If there is only one, the result is its body; if there is none, the result is the
+/// empty pattern.
 fn choice_of(span: Span, branches: Branches) -> Pat
     ensures { pat_of result ≡ is_choice_of span (branches_of (map branch_tree branches)) }
 {
@@ -73,10 +74,10 @@ fn choice_of(span: Span, branches: Branches) -> Pat
     }
 }
 
-/// Returns what is left of a part without the dropped branches.
+/// Returns what is left of a part without the branches whose spans are in `dropped`. What is left keeps the spans it had.
 #[cycle(leaving)]
 pub(crate) fn left_part(alloc: Global, part: &Pat, dropped: &[Span]) -> Result<Pat, OutOfMemory>
-    ensures { IfOk result (λ found. pat_of found ≡ left (lies_among dropped.now) no_span (pat_of part.now)) }
+    ensures { IfOk result (λ found. pat_of found ≡ remaining (lies_among dropped.now) no_span (pat_of part.now)) }
 {
     match part {
         Pat::Nothing { span } => Ok(Pat::Nothing { span: *span }),
@@ -147,7 +148,7 @@ pub(crate) fn left_part(alloc: Global, part: &Pat, dropped: &[Span]) -> Result<P
     }
 }
 
-/// Appends what is left of each item.
+/// Appends to `found` what is left of each item without the dropped branches.
 #[cycle(leaving)]
 fn put_items_left(
     alloc: Global,
@@ -155,7 +156,7 @@ fn put_items_left(
     dropped: &[Span],
     found: &mut Pats,
 ) -> Result<(), OutOfMemory>
-    ensures { OnOk result (map pat_of found.new ≡ map pat_of found.old ++ all_left (lies_among dropped.now) (map pat_of items.now)) }
+    ensures { OnOk result (map pat_of found.new ≡ map pat_of found.old ++ all_remaining (lies_among dropped.now) (map pat_of items.now)) }
 {
     for item in items {
         let left = left_part(alloc, item, dropped)?;
@@ -164,7 +165,7 @@ fn put_items_left(
     Ok(())
 }
 
-/// Appends what is left of each remaining branch.
+/// Appends to `found` each branch that isn't dropped, with what is left of its body.
 #[cycle(leaving)]
 fn put_branches_left(
     alloc: Global,
@@ -172,7 +173,7 @@ fn put_branches_left(
     dropped: &[Span],
     found: &mut Branches,
 ) -> Result<(), OutOfMemory>
-    ensures { OnOk result (map branch_tree found.new ≡ map branch_tree found.old ++ some_left (lies_among dropped.now) (map branch_tree branches.now)) }
+    ensures { OnOk result (map branch_tree found.new ≡ map branch_tree found.old ++ some_remaining (lies_among dropped.now) (map branch_tree branches.now)) }
 {
     for branch in branches {
         if !among(dropped, branch.span) {
@@ -183,7 +184,8 @@ fn put_branches_left(
     Ok(())
 }
 
-/// Returns the tree, in the mode fullmatch, of a pattern's body without the dropped branches.
+/// Returns the tree, in the mode fullmatch, of a pattern's body without the dropped branches. The body must not contain a
+/// guard, and the tree must not have more than `MOST_NODES` nodes.
 pub(crate) fn tree_without(alloc: Global, p: &Pattern, dropped: &[Span]) -> Result<Re, OutOfMemory>
     requires guardless { holds_guard (body_of p.now) ≡ false }
     requires small { size (without dropped.now (body_of p.now)) ≤ MOST_NODES }

@@ -3,7 +3,7 @@
 //! [`suggest`] tries the branches of a pattern, starting with the last one, and drops each branch that the rules allow to be
 //! dropped and without which the language stays the same. `rl_trim` decides these trials if it can, and `rl_equiv` decides
 //! the others. Then [`suggest`] takes out quantifiers that change nothing below another one, such as the inner one in
-//! `(?:x*)*`, and spells the resulting text. The [`Suggestion`](rl_syntax::Suggestion) has this text and the places of
+//! `(?:x*)*`, and spells the resulting text. The [`Suggestion`](rl_syntax::Suggestion) has this text and the spans of
 //! everything that was removed. [`plain_suggestion`] returns at once for a pattern from which nothing can be removed.
 //!
 //! # What is proved
@@ -16,8 +16,10 @@
 //! # Example
 //!
 //! ```
-//! suggest(alloc, &pattern, &codes, flags, 600)?; // for `(?:ab|a|ab)c`: the text `(?:ab|a)c`; the branch at place 8 is dropped
-//! suggest(alloc, &pattern, &codes, flags, 600)?; // for `(?:x*)*y`: the text `(?:x)*y`
+//! // for `(?:ab|a|ab)c`: the text `(?:ab|a)c`; the third branch, at the positions 8 and 9, is dropped
+//! suggest(alloc, &pattern, &codes, flags, 600)?;
+//! // for `(?:x*)*y`: the text `(?:x)*y`
+//! suggest(alloc, &pattern, &codes, flags, 600)?;
 //! ```
 //!
 //! Read `specs/RightSuggestion.antt` first, with `specs/Suggested.antt` and `specs/Cut.antt` of `rl_pattern`, which define

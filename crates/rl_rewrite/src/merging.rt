@@ -1,4 +1,5 @@
-//! The quantifiers that are taken out.
+//! The quantifiers that are taken out because they change nothing, such as the inner one in `(?:x*)*`. A quantifier is
+//! identified by its span.
 
 ghost use Rattle.std.specs.Prelude.{◌≡◌, ◌++◌, map, IfOk, OnOk};
 ghost use Rattle.rl_syntax.specs.PatTree.{pat_of, items_of, branches_of};
@@ -11,19 +12,19 @@ use rl_lists::OutOfMemory;
 use rl_syntax::{Branch, Pat, Spans};
 use std::alloc::Global;
 
-/// How often a repeat takes its body.
+/// How many times a repeat repeats its body.
 #[derive(Clone, Copy)]
 struct Times {
     /// The least number of times.
     least: u32,
-    /// The greatest number of times, if there is one.
+    /// The greatest number of times, or `None` if there is no upper bound.
     most: Option<u32>,
 }
 
 /// The surroundings of a part.
 #[derive(Clone, Copy)]
 enum Place {
-    /// Neither of the other two.
+    /// Any other surroundings.
     Elsewhere,
     /// The part is the body of this repeat.
     Under(Times),
@@ -31,7 +32,8 @@ enum Place {
     Inside(bool, Times),
 }
 
-/// Whether an inner repeat may be taken out under an outer one: `*`, `+` or `?` under `*`, and `+` under `+`.
+/// Returns whether the bounds of two nested quantifiers allow the inner one to be taken out: `*`, `+` or `?` inside `*`, or
+/// `+` inside `+`.
 fn is_allowed(inner: Times, outer: Times) -> bool
     ensures { result ≡ allowed_pair inner.least inner.most outer.least outer.most }
 {
@@ -43,7 +45,9 @@ fn is_allowed(inner: Times, outer: Times) -> bool
     }
 }
 
-/// Whether the quantifier of a repeat in these surroundings is taken out.
+/// Returns whether the quantifier of a repeat with these surroundings, bounds and body is taken out. It is if the repeat is
+/// the whole content of a group that doesn't capture and is itself repeated, its body contains no capturing group, and the
+/// bounds allow it.
 fn goes(place: Place, inner: Times, body: &Pat) -> bool
     ensures { result ≡ goes_out (around_of place) inner.least inner.most (pat_of body.now) }
 {
@@ -55,7 +59,7 @@ fn goes(place: Place, inner: Times, body: &Pat) -> bool
     }
 }
 
-/// Returns the surroundings of the content of a group.
+/// Returns the surroundings of the content of a group, given the surroundings of the group and whether it captures.
 fn inside(place: Place, captures: bool) -> Place
     ensures { around_of result ≡ content (around_of place) captures }
 {
@@ -65,7 +69,7 @@ fn inside(place: Place, captures: bool) -> Place
     }
 }
 
-/// Appends the spans of the quantifiers that are taken out of a part in these surroundings.
+/// Appends to `found` the spans of the quantifiers that are taken out of a part with these surroundings, in ascending order.
 #[cycle(merging)]
 fn put_merged(part: &Pat, place: Place, found: &mut Spans) -> Result<(), OutOfMemory>
     ensures { OnOk result (found.new ≡ found.old ++ merged_at (around_of place) (pat_of part.now)) }
@@ -99,7 +103,7 @@ fn put_merged(part: &Pat, place: Place, found: &mut Spans) -> Result<(), OutOfMe
     }
 }
 
-/// Appends the spans of the quantifiers that are taken out of the items.
+/// Appends to `found` the spans of the quantifiers that are taken out of the items of a sequence, item by item.
 #[cycle(merging)]
 fn put_items_merged(items: &[Pat], found: &mut Spans) -> Result<(), OutOfMemory>
     ensures { OnOk result (found.new ≡ found.old ++ items_merged (items_of (map pat_of items.now))) }
@@ -110,7 +114,7 @@ fn put_items_merged(items: &[Pat], found: &mut Spans) -> Result<(), OutOfMemory>
     Ok(())
 }
 
-/// Appends the spans of the quantifiers that are taken out of the branches.
+/// Appends to `found` the spans of the quantifiers that are taken out of the branches of a choice, branch by branch.
 #[cycle(merging)]
 fn put_branches_merged(branches: &[Branch], found: &mut Spans) -> Result<(), OutOfMemory>
     ensures { OnOk result (found.new ≡ found.old ++ branches_merged (branches_of (map branch_tree branches.now))) }
@@ -121,7 +125,7 @@ fn put_branches_merged(branches: &[Branch], found: &mut Spans) -> Result<(), Out
     Ok(())
 }
 
-/// Returns the spans of the quantifiers that are taken out of a body.
+/// Returns the spans of the quantifiers that are taken out of a whole body, in ascending order.
 pub(crate) fn all_merged(alloc: Global, body: &Pat) -> Result<Spans, OutOfMemory>
     ensures { IfOk result (λ all. all ≡ merged_in (pat_of body.now)) }
 {

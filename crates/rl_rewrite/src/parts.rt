@@ -1,4 +1,4 @@
-//! Tests of what a pattern contains.
+//! Tests of what a pattern contains: a guard, which is an anchor or a word boundary, or a capturing group.
 
 ghost use Rattle.std.specs.Prelude.{◌≡◌, map};
 ghost use Rattle.rl_syntax.specs.PatTree.{pat_of, items_of, branches_of};
@@ -9,7 +9,7 @@ ghost use Rattle.rl_pattern.specs.Suggested.{holds_capture as capture_in, some_c
 
 use rl_syntax::{Branch, Pat, Span};
 
-/// Whether the span is in the list.
+/// Returns whether the span is in the list.
 pub(crate) fn among(spans: &[Span], span: Span) -> bool
     ensures { result ≡ lies_among spans.now span }
 {
@@ -20,7 +20,7 @@ pub(crate) fn among(spans: &[Span], span: Span) -> bool
     found
 }
 
-/// Whether a part contains an anchor or a boundary.
+/// Returns whether a part contains an anchor or a word boundary.
 #[cycle(guards)]
 pub(crate) fn holds_guard(part: &Pat) -> bool
     ensures { result ≡ guard_in (pat_of part.now) }
@@ -34,7 +34,7 @@ pub(crate) fn holds_guard(part: &Pat) -> bool
     }
 }
 
-/// Whether one of the items contains an anchor or a boundary.
+/// Returns whether at least one of the items contains an anchor or a word boundary.
 #[cycle(guards)]
 fn items_hold_guard(items: &[Pat]) -> bool
     ensures { result ≡ some_guard (items_of (map pat_of items.now)) }
@@ -46,7 +46,7 @@ fn items_hold_guard(items: &[Pat]) -> bool
     held
 }
 
-/// Whether one of the branches contains an anchor or a boundary.
+/// Returns whether at least one of the branches contains an anchor or a word boundary.
 #[cycle(guards)]
 fn branches_hold_guard(branches: &[Branch]) -> bool
     ensures { result ≡ branch_guard (branches_of (map branch_tree branches.now)) }
@@ -58,7 +58,7 @@ fn branches_hold_guard(branches: &[Branch]) -> bool
     held
 }
 
-/// Whether a part contains a capturing group.
+/// Returns whether a part is or contains a capturing group.
 #[cycle(captures)]
 pub(crate) fn holds_capture(part: &Pat) -> bool
     ensures { result ≡ capture_in (pat_of part.now) }
@@ -76,7 +76,7 @@ pub(crate) fn holds_capture(part: &Pat) -> bool
     }
 }
 
-/// Whether one of the items contains a capturing group.
+/// Returns whether at least one of the items is or contains a capturing group.
 #[cycle(captures)]
 fn items_hold_capture(items: &[Pat]) -> bool
     ensures { result ≡ some_capture (items_of (map pat_of items.now)) }
@@ -88,7 +88,7 @@ fn items_hold_capture(items: &[Pat]) -> bool
     held
 }
 
-/// Whether one of the branches contains a capturing group.
+/// Returns whether at least one of the branches contains a capturing group.
 #[cycle(captures)]
 fn branches_hold_capture(branches: &[Branch]) -> bool
     ensures { result ≡ branch_capture (branches_of (map branch_tree branches.now)) }

@@ -1,4 +1,4 @@
-//! Patterns from which nothing can be removed.
+//! Plain patterns, from which nothing can be removed: they have no branches, and no quantifiers that the rules take out.
 
 ghost use Rattle.std.specs.Prelude.{◌≡◌, ℕ, List, map, IfOk, IfSome, IfNone};
 ghost use Rattle.rl_syntax.specs.PatTree.{pat_of, items_of};
@@ -13,7 +13,7 @@ use rl_lists::OutOfMemory;
 use rl_syntax::{Pat, Pattern, Spans, Suggestion};
 use std::alloc::Global;
 
-/// Whether a part contains a branch of a choice.
+/// Returns whether a part contains a branch of some choice.
 #[cycle(choices)]
 fn holds_branch(part: &Pat) -> bool
     ensures { result ≡ branch_in (pat_of part.now) }
@@ -30,7 +30,7 @@ fn holds_branch(part: &Pat) -> bool
     }
 }
 
-/// Whether one of the items contains a branch of a choice.
+/// Returns whether at least one of the items contains a branch of some choice.
 #[cycle(choices)]
 fn items_hold_branch(items: &[Pat]) -> bool
     ensures { result ≡ branch_among (items_of (map pat_of items.now)) }
@@ -42,9 +42,9 @@ fn items_hold_branch(items: &[Pat]) -> bool
     held
 }
 
-/// Returns the suggestion that removes nothing if the pattern has no branches and no quantifiers to be taken out, and `None`
-/// otherwise. This suggestion is right under all flags, for all codes and with every limit, even if the body exceeds a limit.
-/// Memory is allocated only if there is a quantifier to be taken out.
+/// Returns the suggestion that removes nothing, which has no text and empty lists, if the pattern has no branches and no
+/// quantifiers to be taken out, and `None` otherwise. This suggestion is right under all flags, for all codes and with every
+/// limit, even if the body exceeds a limit. Memory is allocated only if there is a quantifier to be taken out.
 ///
 /// # Errors
 /// [`OutOfMemory`] if there is not enough memory.

@@ -1,4 +1,5 @@
-//! The codes of a pattern without the branches that are dropped and the quantifiers that are taken out.
+//! The codes of a pattern without the branches that are dropped and the quantifiers that are taken out. Both are identified by
+//! their spans, in `dropped` and `merged`. The position of a code is its index in the pattern, from 0.
 
 ghost use Rattle.std.specs.Prelude.{◌≡◌, ◌++◌, false, not, map, IfOk, OnOk};
 ghost use Rattle.rl_syntax.specs.PatTree.{pat_of, items_of, branches_of};
@@ -13,17 +14,17 @@ use rl_ranges::Codes;
 use rl_syntax::{Branch, Pat, Span};
 use std::alloc::Global;
 
-/// A stretch of codes that are removed.
+/// A run of consecutive codes that are removed from a pattern.
 #[derive(Clone, Copy)]
 pub(crate) struct Hole {
-    /// The place of the first code.
+    /// The position of the first code.
     pub(crate) from: usize,
-    /// The place after the last code.
+    /// The position after the last code.
     pub(crate) upto: usize,
 }
 
-/// Returns the hole of a dropped branch. It includes the `|` before the branch, or the `|` after it if no earlier branch is
-/// left.
+/// Returns the hole of a dropped branch with the given span. `some_before` says whether an earlier branch of its choice is
+/// left: if so, the hole includes the `|` before the branch, otherwise the `|` after it.
 fn branch_hole(span: Span, some_before: bool) -> Hole
     ensures { result ≡ is_branch_hole span some_before }
 {
@@ -40,7 +41,7 @@ fn branch_hole(span: Span, some_before: bool) -> Hole
     }
 }
 
-/// Returns the hole of a quantifier that is taken out.
+/// Returns the hole of a quantifier that is taken out; `mark` is its span.
 fn mark_hole(mark: Span) -> Hole
     ensures { result ≡ is_mark_hole mark }
 {
@@ -50,7 +51,8 @@ fn mark_hole(mark: Span) -> Hole
     }
 }
 
-/// Appends the holes of a part.
+/// Appends to `found` the holes of a part: one for each dropped branch and each quantifier that is taken out, except inside
+/// dropped branches.
 #[cycle(holes)]
 fn put_holes(
     part: &Pat,
@@ -80,7 +82,7 @@ fn put_holes(
     }
 }
 
-/// Appends the holes of the items.
+/// Appends to `found` the holes of the items, item by item.
 #[cycle(holes)]
 fn put_items_holes(
     items: &[Pat],
@@ -96,7 +98,7 @@ fn put_items_holes(
     Ok(())
 }
 
-/// Appends the holes of the branches of a choice.
+/// Appends to `found` the holes of all branches of a choice, branch by branch.
 #[cycle(holes)]
 fn put_branches_holes(
     branches: &[Branch],
@@ -118,7 +120,7 @@ fn put_branches_holes(
     Ok(())
 }
 
-/// Whether a place lies in a hole.
+/// Returns whether the code at a position lies in one of the holes.
 fn in_holes(holes: &[Hole], place: usize) -> bool
     ensures { result ≡ lies_in_holes holes.now place }
 {
@@ -129,7 +131,7 @@ fn in_holes(holes: &[Hole], place: usize) -> bool
     found
 }
 
-/// Returns the codes that lie in no hole.
+/// Returns the codes that lie in none of the holes, in order.
 fn without_holes(alloc: Global, codes: &[u32], holes: &[Hole]) -> Result<Codes, OutOfMemory>
     ensures { IfOk result (λ text. text ≡ kept_from (λ t. not (lies_in_holes holes.now t)) 0 codes.now) }
 {
@@ -142,8 +144,8 @@ fn without_holes(alloc: Global, codes: &[u32], holes: &[Hole]) -> Result<Codes, 
     Ok(kept)
 }
 
-/// Returns the codes of a body without the dropped branches and the quantifiers that are taken out, or `None` if there are
-/// neither.
+/// Returns the codes of a pattern without the dropped branches and the quantifiers that are taken out of its body, or `None`
+/// if both lists are empty.
 pub(crate) fn text_of(
     alloc: Global,
     body: &Pat,

@@ -1,14 +1,15 @@
-//! The suggestion for a pattern.
+//! The suggestion for a pattern: the pattern without the branches and quantifiers that the rules allow to be removed without
+//! changing the texts that it matches.
 
 ghost use Rattle.std.specs.Prelude.{◌≡◌, ◌≤◌, ℕ, List, length, Some, Ok, IfOk, IfErr, OnOk};
 ghost use Rattle.rl_ranges.specs.Text.{IsText};
 ghost use Rattle.rl_syntax.specs.Pattern.{body_of, universe_of, pattern_tree};
 ghost use Rattle.rl_syntax.specs.declared.re.Mode.TheVariants.{Fullmatch};
 ghost use Rattle.rl_syntax.specs.declared.verdict.Limit.{Limit as AnyLimit};
-ghost use Rattle.rl_pattern.specs.Cut.{left};
+ghost use Rattle.rl_pattern.specs.Cut.{remaining};
 ghost use Rattle.rl_pattern.specs.Parsed.{IsParsed};
 ghost use Rattle.rl_pattern.specs.Suggested.{among, no_span, merged_in};
-ghost use Rattle.rl_rewrite.specs.Verdicts.{PassesLimit};
+ghost use Rattle.rl_rewrite.specs.Verdicts.{IsFirstExceeded};
 ghost use Rattle.rl_pattern.specs.Placed.{ArePlaced};
 ghost use Rattle.rl_rewrite.specs.RightSuggestion.{IsRightSuggestion};
 ghost use Rattle.rl_rewrite.specs.declared.suggesting.SuggestError.TheVariants as error;
@@ -40,14 +41,16 @@ impl From<OutOfMemory> for SuggestError {
 
     ghost from_gives = { λ _ e. e ≡ error.OutOfMemory };
 
+    /// Returns [`SuggestError::OutOfMemory`].
     fn from(_: OutOfMemory) -> Self {
         SuggestError::OutOfMemory
     }
 }
 
-/// Returns the spans of the quantifiers that are taken out of a body without the dropped branches.
+/// Returns the spans, in ascending order, of the quantifiers that are taken out of what is left of a pattern's body without
+/// the dropped branches.
 fn merged_of(alloc: Global, p: &Pattern, dropped: &[Span]) -> Result<Spans, OutOfMemory>
-    ensures { IfOk result (λ all. all ≡ merged_in (left (among dropped.now) no_span (body_of p.now))) }
+    ensures { IfOk result (λ all. all ≡ merged_in (remaining (among dropped.now) no_span (body_of p.now))) }
 {
     let left = left_part(alloc, p.body(), dropped)?;
     let merged = all_merged(alloc, &left);
@@ -55,12 +58,15 @@ fn merged_of(alloc: Global, p: &Pattern, dropped: &[Span]) -> Result<Spans, OutO
     merged
 }
 
-/// Returns the right suggestion for a pattern, which must have been read from `codes` under `flags`. Each trial looks at no
-/// more than `limit` set pairs.
+/// Returns the suggestion that the rules give for a pattern, which must have been read from `codes` under `flags`. Its text is
+/// `None` if nothing is removed. A trial of a branch compares the languages with and without it, and looks at no more than
+/// `limit` set pairs, which are two sets of states to which the same word leads. A branch whose trial would need more is kept
+/// and listed in `passed`. `limit` must be from 1 to `MOST_SET_PAIRS`, which is 20,000.
 ///
 /// # Errors
-/// [`SuggestError::Limit`], with the limit, if the body exceeds a limit in the mode fullmatch; [`SuggestError::OutOfMemory`]
-/// if there is not enough memory.
+/// [`SuggestError::Limit`], with the first limit that is exceeded, if the body exceeds one in the mode fullmatch: on its nodes
+/// (`Size`), its letters (`Letters`) or the length of its longest item list (`Moves`); [`SuggestError::OutOfMemory`] if there
+/// is not enough memory.
 pub fn suggest(
     alloc: Global,
     p: &Pattern,
@@ -72,8 +78,8 @@ pub fn suggest(
     requires some { 1 ≤ limit }
     requires low { limit ≤ MOST_SET_PAIRS }
     ensures right { IfOk result (IsRightSuggestion flags p.now codes.now limit) }
-    ensures within { OnOk result ((l : AnyLimit) → PassesLimit (universe_of p.now) (pattern_tree p.now Fullmatch) l → ⊥) }
-    ensures passed { IfErr result (λ e. (l : AnyLimit) → e ≡ error.Limit l → PassesLimit (universe_of p.now) (pattern_tree p.now Fullmatch) l) }
+    ensures within { OnOk result ((l : AnyLimit) → IsFirstExceeded (universe_of p.now) (pattern_tree p.now Fullmatch) l → ⊥) }
+    ensures passed { IfErr result (λ e. (l : AnyLimit) → e ≡ error.Limit l → IsFirstExceeded (universe_of p.now) (pattern_tree p.now Fullmatch) l) }
     ensures dropped_placed { IfOk result (λ s. ArePlaced (length codes.now) s.dropped) }
     ensures merged_placed { IfOk result (λ s. ArePlaced (length codes.now) s.merged) }
     ensures passed_placed { IfOk result (λ s. ArePlaced (length codes.now) s.passed) }

@@ -2,10 +2,10 @@
 
 ghost use Rattle.std.specs.Prelude.{◌≡◌, ◌≤◌, IfOk};
 ghost use Rattle.rl_syntax.specs.Tree.{tree_of, IsOver};
-ghost use Rattle.rl_equiv.specs.Bases.{TellsNoMore};
+ghost use Rattle.rl_equiv.specs.Bases.{DistinguishesNoMore};
 ghost use Rattle.rl_equiv.specs.Limits.{AreWithin, IsWithin};
 ghost use Rattle.rl_rewrite.specs.Verdicts.{IsVerdict};
-ghost use Rattle.rl_rewrite.specs.internal.Trials.{verdict_of, IsTold};
+ghost use Rattle.rl_rewrite.specs.internal.Trials.{verdict_of, IsTrueTrial};
 ghost use Rattle.rl_syntax.specs.declared.limits.TheConstants.{MOST_SET_PAIRS};
 
 use rl_equiv::{Baseline, SameError, Sameness};
@@ -21,11 +21,13 @@ pub(crate) enum Trial {
     Equal,
     /// The languages differ.
     Apart,
-    /// It gave up: the comparison exceeded its limit.
+    /// The trial was given up because it exceeded its limit on set pairs.
     GaveUp,
 }
 
-/// Tries a branch by comparing the trees of a body with and without it. Neither tree exceeds a limit.
+/// Tries a branch by comparing `before`, the tree of a body with it, and `after`, the tree without it, and returns the
+/// outcome. Neither tree may exceed a limit, and the sets of `after` must distinguish no codes that the sets of `before` don't
+/// distinguish. At most `limit` set pairs are looked at; `limit` must be from 1 to `MOST_SET_PAIRS`.
 pub(crate) fn run_trial(
     alloc: Global,
     before: &mut Baseline,
@@ -33,12 +35,12 @@ pub(crate) fn run_trial(
     limit: u32,
 ) -> Result<Trial, OutOfMemory>
     requires inside { IsOver before.old.universe (tree_of after.now) }
-    requires letters { TellsNoMore (tree_of before.old.tree) (tree_of after.now) }
+    requires letters { DistinguishesNoMore (tree_of before.old.tree) (tree_of after.now) }
     requires within { AreWithin before.old.universe (tree_of before.old.tree) (tree_of after.now) }
     requires some { 1 ≤ limit }
     requires low { limit ≤ MOST_SET_PAIRS }
     ensures verdict { IfOk result (λ t. IsVerdict before.old.universe limit (tree_of before.old.tree) (tree_of after.now) (verdict_of t)) }
-    ensures told { IfOk result (IsTold before.old.universe (tree_of before.old.tree) (tree_of after.now)) }
+    ensures told { IfOk result (IsTrueTrial before.old.universe (tree_of before.old.tree) (tree_of after.now)) }
     ensures unchanged { before.new ≡ before.old }
 {
     match before.compare(alloc, after, limit) {
@@ -56,7 +58,7 @@ pub(crate) fn run_trial(
     }
 }
 
-/// Makes a tree that exceeds no limit the one with which others are compared.
+/// Returns a tree, which must not exceed a limit, prepared for comparisons with other trees.
 pub(crate) fn next_baseline(
     alloc: Global,
     tree: Re,

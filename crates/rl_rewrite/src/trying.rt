@@ -1,4 +1,12 @@
-//! Trying the branches of a body one after another.
+//! Trying the branches of a body one after another, from last to first. A trial compares the language of the body without the
+//! branches dropped so far with its language without one more branch, which is dropped if the languages are the same.
+//!
+//! Branches are identified by their spans; lists of them are in the order of the pattern. The base is the tree of the body
+//! without the branches dropped so far, prepared for comparisons with other trees.
+//!
+//! Branches are tried only if the body contains no guard, that is, no anchor and no word boundary. The body must not exceed a
+//! limit, and the rules must allow the dropped branches to be dropped. `limit` is the most set pairs that a trial may look at,
+//! from 1 to `MOST_SET_PAIRS`.
 
 ghost use Rattle.std.specs.Prelude.{◌≡◌, ◌≤◌, [], ◌∷◌, List, length, false, true, IfOk, OnOk, IfSome};
 ghost use Rattle.rl_syntax.specs.declared.span.Span.{Span as AnySpan};
@@ -9,7 +17,7 @@ ghost use Rattle.rl_pattern.specs.Suggested.{among, may_go as goes, holds_guard 
 ghost use Rattle.rl_equiv.specs.Bases.{IsBase};
 ghost use Rattle.rl_equiv.specs.Limits.{IsWithin};
 ghost use Rattle.rl_rewrite.specs.Verdicts.{IsVerdict};
-ghost use Rattle.rl_rewrite.specs.internal.Trials.{verdict_of, trial_told, IsTold, AreTried};
+ghost use Rattle.rl_rewrite.specs.internal.Trials.{verdict_of, trial_for, IsTrueTrial, AreTried};
 ghost use Rattle.rl_syntax.specs.declared.limits.TheConstants.{MOST_SET_PAIRS};
 
 use crate::going::{all_branches, may_go};
@@ -24,11 +32,11 @@ use rl_trim::{Judgement, Trimmer};
 use std::alloc::Global;
 use std::mem::replace;
 
-/// If there are at least this many branches, each is first tried on a single automaton. This affects only speed: the extra
-/// automaton pays off if there are several trials.
+/// If there are at least this many branches, each is first tried on a single automaton, by a [`Trimmer`]. This affects only
+/// speed: the extra automaton pays off if there are several trials.
 const QUICK_FROM: usize = 3;
 
-/// The outcome of the trials of all branches, in the order of their places.
+/// The outcome of the trials of all branches. Both lists are in the order of the pattern.
 #[derive(Drop)]
 pub(crate) struct Tried {
     /// The branches that were dropped.
@@ -37,19 +45,19 @@ pub(crate) struct Tried {
     pub(crate) passed: Spans,
 }
 
-/// The outcome of the trials so far, in the order of the places.
+/// The outcome of the trials so far. Both lists are in the order of the pattern.
 #[derive(Drop)]
 struct Tries {
     /// The branches that were dropped.
     dropped: Spans,
     /// The branches whose trial exceeded its limit.
     passed: Spans,
-    /// The tree of the body without the dropped branches, with which others are compared, or `None` if none has been needed
-    /// since the last branch was dropped.
+    /// The base, or `None` if it hasn't been needed since the last branch was dropped.
     base: Option<Baseline>,
 }
 
-/// Returns, if `wanted`, the automaton of the tree of a body without the dropped branches, on which other branches are tried.
+/// Returns, if `wanted`, the automaton of the body without the dropped branches, on which other branches are tried; otherwise
+/// returns `None`.
 fn trimmer_of(
     alloc: Global,
     p: &Pattern,
@@ -73,7 +81,7 @@ fn trimmer_of(
     Ok(Some(trimmer))
 }
 
-/// Returns a list with `first` in front of the other spans.
+/// Returns a list of `first`, followed by the spans `others`.
 fn with_first(alloc: Global, first: Span, others: &[Span]) -> Result<Spans, OutOfMemory>
     ensures { IfOk result (λ all. all ≡ first ∷ others.now) }
 {
@@ -83,9 +91,9 @@ fn with_first(alloc: Global, first: Span, others: &[Span]) -> Result<Spans, OutO
     Ok(Spans::from_vec(all))
 }
 
-/// Returns the outcome of a trial for a judgement on one automaton.
+/// Returns the outcome of a trial that a [`Trimmer`] has judged: the same one, except that `Passed` is called `GaveUp`.
 fn told(found: Judgement) -> Trial
-    ensures { result ≡ trial_told found }
+    ensures { result ≡ trial_for found }
 {
     match found {
         Judgement::Equal => Trial::Equal,
@@ -94,8 +102,8 @@ fn told(found: Judgement) -> Trial
     }
 }
 
-/// Tries one more branch on the automaton of what is left. Returns `None` if there is no automaton or it doesn't decide the
-/// trial.
+/// Tries one more branch, which the rules must allow to go, on the automaton of the body without the dropped branches. Returns
+/// the outcome, or `None` if there is no automaton, the branch may span the empty text, or the trial has no room.
 fn judge_branch(
     alloc: Global,
     p: &Pattern,
@@ -108,7 +116,7 @@ fn judge_branch(
     requires may { goes (among (branch ∷ dropped.now)) (body_of p.now) ≡ true }
     requires base { IfSome trimmer.old (IsBase (universe_of p.now) (without dropped.now (body_of p.now))) }
     ensures verdict { IfOk result (λ o. IfSome o (λ t. IsVerdict (universe_of p.now) limit (without dropped.now (body_of p.now)) (without (branch ∷ dropped.now) (body_of p.now)) (verdict_of t))) }
-    ensures told { IfOk result (λ o. IfSome o (IsTold (universe_of p.now) (without dropped.now (body_of p.now)) (without (branch ∷ dropped.now) (body_of p.now)))) }
+    ensures told { IfOk result (λ o. IfSome o (IsTrueTrial (universe_of p.now) (without dropped.now (body_of p.now)) (without (branch ∷ dropped.now) (body_of p.now)))) }
     ensures unchanged { trimmer.new ≡ trimmer.old }
 {
     let Some(trimmer) = trimmer else {
@@ -125,7 +133,8 @@ fn judge_branch(
     Ok(Some(told(found)))
 }
 
-/// Tries one more branch by comparing the trees with and without it.
+/// Tries one more branch, which the rules must allow to go, by comparing the base with the tree of the body without this
+/// branch too. Returns the outcome.
 fn compare_branch(
     alloc: Global,
     p: &Pattern,
@@ -143,7 +152,7 @@ fn compare_branch(
     requires some { 1 ≤ limit }
     requires low { limit ≤ MOST_SET_PAIRS }
     ensures verdict { IfOk result (λ t. IsVerdict (universe_of p.now) limit (without dropped.now (body_of p.now)) (without (branch ∷ dropped.now) (body_of p.now)) (verdict_of t)) }
-    ensures told { IfOk result (IsTold (universe_of p.now) (without dropped.now (body_of p.now)) (without (branch ∷ dropped.now) (body_of p.now))) }
+    ensures told { IfOk result (IsTrueTrial (universe_of p.now) (without dropped.now (body_of p.now)) (without (branch ∷ dropped.now) (body_of p.now))) }
     ensures unchanged { base.new ≡ base.old }
 {
     let more = with_first(alloc, branch, dropped)?;
@@ -155,7 +164,7 @@ fn compare_branch(
     trial
 }
 
-/// Returns the tree of a body without the dropped branches, as the tree with which others are compared.
+/// Makes the base: returns the tree of the body without the dropped branches, prepared for comparisons.
 fn baseline_without(alloc: Global, p: &Pattern, dropped: &[Span]) -> Result<Baseline, OutOfMemory>
     requires guardless { guard_in (body_of p.now) ≡ false }
     requires within { IsWithin (universe_of p.now) (lowered (body_of p.now)) }
@@ -168,8 +177,7 @@ fn baseline_without(alloc: Global, p: &Pattern, dropped: &[Span]) -> Result<Base
     Ok(base)
 }
 
-/// Returns the tree of a body without the dropped branches, as the tree with which others are compared. If `base` has it, it
-/// isn't made again.
+/// Returns the base for the dropped branches: `base`, which must be for the same branches, if it is given; otherwise makes it.
 fn base_of(
     alloc: Global,
     p: &Pattern,
@@ -190,7 +198,8 @@ fn base_of(
     }
 }
 
-/// Tries one more branch: on the automaton of what is left if it decides the trial, and otherwise by comparing both trees.
+/// Tries one more branch, which the rules must allow to go: on the automaton of the body without the dropped branches if this
+/// decides, and otherwise by comparing both trees. Returns the outcome; `tries` keeps the base if it was needed.
 fn trial_of(
     alloc: Global,
     p: &Pattern,
@@ -209,7 +218,7 @@ fn trial_of(
     requires some { 1 ≤ limit }
     requires low { limit ≤ MOST_SET_PAIRS }
     ensures verdict { IfOk result (λ t. IsVerdict (universe_of p.now) limit (without tries.old.dropped (body_of p.now)) (without (branch ∷ tries.old.dropped) (body_of p.now)) (verdict_of t)) }
-    ensures told { IfOk result (IsTold (universe_of p.now) (without tries.old.dropped (body_of p.now)) (without (branch ∷ tries.old.dropped) (body_of p.now))) }
+    ensures told { IfOk result (IsTrueTrial (universe_of p.now) (without tries.old.dropped (body_of p.now)) (without (branch ∷ tries.old.dropped) (body_of p.now))) }
     ensures dropped { tries.new.dropped ≡ tries.old.dropped }
     ensures passed { tries.new.passed ≡ tries.old.passed }
     ensures tree { OnOk result (IfSome tries.new.base (λ b. tree_of b.tree ≡ without tries.old.dropped (body_of p.now))) }
@@ -231,7 +240,8 @@ fn trial_of(
     Ok(trial)
 }
 
-/// Tries the branch before all those tried so far, and records the outcome.
+/// Tries one more branch, which is before all branches tried so far, and records the outcome in `tries`. If the rules don't
+/// allow it to go, it is left alone, and nothing is recorded.
 fn try_branch(
     alloc: Global,
     p: &Pattern,
@@ -284,8 +294,8 @@ fn try_branch(
     }
 }
 
-/// Tries the branch before all those tried so far, and records the outcome. If the branch is dropped and there is an
-/// automaton, makes the automaton of what is left then.
+/// Tries one more branch as `try_branch` does. If it is dropped and there is an automaton, the automaton is replaced by the
+/// automaton of the body without all branches dropped so far.
 fn try_next(
     alloc: Global,
     p: &Pattern,
@@ -318,7 +328,7 @@ fn try_next(
     Ok(())
 }
 
-/// Tries all of the branches, starting with the last one, if none has been tried before.
+/// Tries the listed branches, from last to first, and records the outcomes in `tries`. No branch may have been tried before.
 fn try_each(
     alloc: Global,
     p: &Pattern,
@@ -343,7 +353,8 @@ fn try_each(
     Ok(())
 }
 
-/// Tries all branches of a body.
+/// Tries all branches of a body and records the outcomes in `tries`. No branch may have been tried before. If there are at
+/// least `QUICK_FROM` branches, makes an automaton for the trials.
 fn try_all(alloc: Global, p: &Pattern, tries: &mut Tries, limit: u32) -> Result<(), OutOfMemory>
     requires guardless { guard_in (body_of p.now) ≡ false }
     requires within { IsWithin (universe_of p.now) (lowered (body_of p.now)) }
@@ -365,7 +376,8 @@ fn try_all(alloc: Global, p: &Pattern, tries: &mut Tries, limit: u32) -> Result<
     Ok(())
 }
 
-/// Tries all branches of a body. `base` is its tree, with which the first branch is compared.
+/// Tries all branches of a body, which must not contain a guard, and returns the outcome. `base` is the tree of the whole
+/// body.
 fn try_branches(
     alloc: Global,
     p: &Pattern,
@@ -399,8 +411,8 @@ fn try_branches(
     Ok(Tried { dropped, passed })
 }
 
-/// Tries all branches of a body, or none if the body contains a guard. `base` is the tree of the body, with which the first
-/// branch is compared.
+/// Tries all branches of a body, or none if the body contains an anchor or a word boundary, and returns the outcome. `base` is
+/// the tree of the whole body.
 pub(crate) fn tries_of(
     alloc: Global,
     p: &Pattern,

@@ -16,7 +16,8 @@ fn push_line(text: &mut Vec<u8>, value: u32) -> Result<(), OutOfMemory>
     Ok(())
 }
 
-/// Generates a source from this seed: an import, followed by `count` calls of `re.fullmatch`.
+/// Returns the source for this seed: a line `import re`, followed by `count` lines, each a call of `re.fullmatch` with one of
+/// eight patterns. `seed` must be less than 2^31, and `count` must be from 1 to 20,000.
 ///
 /// # Errors
 /// [`OutOfMemory`] if there is not enough memory.

@@ -5,7 +5,7 @@ use Rattle.std.proofs.Math.Seq.{take-append_seam}
 use Rattle.std.proofs.lemmas.Bool.Decides.{nat_tests}
 use Rattle.std.proofs.lemmas.List.Sums.{sum_by-append}
 use Rattle.rl_sarif.specs.Keys.{EntryKey, same_key}
-use Rattle.rl_sarif.specs.Known.{times, is_known, is_unknown, unknown_keys}
+use Rattle.rl_sarif.specs.Known.{times, is_known, is_unknown, unknown_key_positions}
 use Rattle.rl_sarif.proofs.KeyLemmas.{same_key-itself}
 
 below-more : (a b : ℕ) → 0 < b → nat_lt a (a + b) ≡ true
@@ -32,5 +32,5 @@ none-unknown all before (k ∷ ks) n at e =
     ap (λ b. cond (not b) ((n, k) ∷ filter (is_unknown all all) (enumerate_from (n + 1) ks)) (filter (is_unknown all all) (enumerate_from (n + 1) ks))) known
     ∙ none-unknown all (before ++ k ∷ []) ks (n + 1) next (e ∙ sym (append_assoc before (k ∷ []) ks))
 
-pub all-known : (ks : List EntryKey) → unknown_keys ks ks ≡ []
+pub all-known : (ks : List EntryKey) → unknown_key_positions ks ks ≡ []
 all-known ks = ap (map (λ (p : ℕ × EntryKey). p.0)) (none-unknown ks [] ks 0 refl refl)

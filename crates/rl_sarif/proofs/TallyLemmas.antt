@@ -11,8 +11,8 @@ use Rattle.indexmap.specs.IndexMap.{IndexMap}
 use Rattle.rl_sarif.specs.declared.key.Key.{Key}
 use Rattle.rl_sarif.specs.contracts.key.KeyPartialEq.TheImpl as key
 use Rattle.rl_sarif.specs.Keys.{EntryKey, same_key, key_in}
-use Rattle.rl_sarif.specs.Known.{times, is_unknown, is_known, unknown_keys}
-use Rattle.rl_sarif.specs.internal.Tally.{left, one_if_same, Holds}
+use Rattle.rl_sarif.specs.Known.{times, is_unknown, is_known, unknown_key_positions}
+use Rattle.rl_sarif.specs.internal.Tally.{remaining, one_if_same, HasCounts}
 use Rattle.rl_sarif.proofs.KeyLemmas.{same_key-equal, same_key-flip, key-eq, found}
 
 unwrap-cond : (b : Bool) (w : ℕ) (o : Option ℕ) → unwrap_or (cond b (Some w) o) 0 ≡ cond b w (unwrap_or o 0)
@@ -22,40 +22,40 @@ unwrap-cond false w o = refl
 module _ {S : Type 0} (m n : IndexMap Key ℕ S) (k : Key) where
   -- The tally after a number is stored at the key k.
   left-put : (w : ℕ) → ((q : Key) → get key.eq-value.it n q ≡ cond (key.eq-value.it k q) (Some w) (get key.eq-value.it m q)) → (q : Key)
-      → left n (key_in q) ≡ cond (same_key (key_in q) (key_in k)) w (left m (key_in q))
+      → remaining n (key_in q) ≡ cond (same_key (key_in q) (key_in k)) w (remaining m (key_in q))
   left-put w puts q =
       let same : key.eq-value.it k q ≡ same_key (key_in q) (key_in k) = key-eq k q ∙ same_key-flip (key_in k) (key_in q) in
       ap (λ o. unwrap_or o 0) (sym (found n q) ∙ puts q ∙ (λ i. cond (same i) (Some w) (found m q i)))
       ∙ unwrap-cond (same_key (key_in q) (key_in k)) w (get_by (λ e. same_key (key_in q) (key_in e)) m)
 
-  added-at : (b : Bool) (w : ℕ) (q : EntryKey) → same_key q (key_in k) ≡ b → w ≡ left m (key_in k) + 1
-      → cond b w (left m q) ≡ left m q + cond b 1 0
-  added-at true w q e is = is ∙ ap (λ (a : EntryKey). left m a + 1) (sym (same_key-equal q (key_in k) e))
+  added-at : (b : Bool) (w : ℕ) (q : EntryKey) → same_key q (key_in k) ≡ b → w ≡ remaining m (key_in k) + 1
+      → cond b w (remaining m q) ≡ remaining m q + cond b 1 0
+  added-at true w q e is = is ∙ ap (λ (a : EntryKey). remaining m a + 1) (sym (same_key-equal q (key_in k) e))
   added-at false w q e is = omega arith
 
   -- One more occurrence of the key.
-  pub added : (w : ℕ) → w ≡ left m (key_in k) + 1
+  pub added : (w : ℕ) → w ≡ remaining m (key_in k) + 1
       → ((q : Key) → get key.eq-value.it n q ≡ cond (key.eq-value.it k q) (Some w) (get key.eq-value.it m q))
-      → Holds n (λ q. left m q + one_if_same q (key_in k))
+      → HasCounts n (λ q. remaining m q + one_if_same q (key_in k))
   added w is puts q = left-put w puts q ∙ added-at (same_key (key_in q) (key_in k)) w (key_in q) refl is
 
-  taken-at : (b : Bool) (w : ℕ) (q : EntryKey) → same_key q (key_in k) ≡ b → w ≡ left m (key_in k) - 1
-      → cond b w (left m q) ≡ left m q - cond b 1 0
-  taken-at true w q e is = is ∙ ap (λ (a : EntryKey). left m a - 1) (sym (same_key-equal q (key_in k) e))
+  taken-at : (b : Bool) (w : ℕ) (q : EntryKey) → same_key q (key_in k) ≡ b → w ≡ remaining m (key_in k) - 1
+      → cond b w (remaining m q) ≡ remaining m q - cond b 1 0
+  taken-at true w q e is = is ∙ ap (λ (a : EntryKey). remaining m a - 1) (sym (same_key-equal q (key_in k) e))
   taken-at false w q e is = omega arith
 
   -- One occurrence of the key less.
-  pub taken : (w : ℕ) → w ≡ left m (key_in k) - 1
+  pub taken : (w : ℕ) → w ≡ remaining m (key_in k) - 1
       → ((q : Key) → get key.eq-value.it n q ≡ cond (key.eq-value.it k q) (Some w) (get key.eq-value.it m q))
-      → Holds n (λ q. left m q - one_if_same q (key_in k))
+      → HasCounts n (λ q. remaining m q - one_if_same q (key_in k))
   taken w is puts q = left-put w puts q ∙ taken-at (same_key (key_in q) (key_in k)) w (key_in q) refl is
 
-none-at : {S : Type 0} (m : IndexMap Key ℕ S) (b : Bool) (q k : EntryKey) → same_key q k ≡ b → left m k ≡ 0 → left m q ≡ left m q - cond b 1 0
-none-at m true q k e none = let nothing : left m q ≡ 0 = ap (left m) (same_key-equal q k e) ∙ none in omega arith
+none-at : {S : Type 0} (m : IndexMap Key ℕ S) (b : Bool) (q k : EntryKey) → same_key q k ≡ b → remaining m k ≡ 0 → remaining m q ≡ remaining m q - cond b 1 0
+none-at m true q k e none = let nothing : remaining m q ≡ 0 = ap (remaining m) (same_key-equal q k e) ∙ none in omega arith
 none-at m false q k e none = omega arith
 
 -- A key with no occurrence left can't be taken.
-pub none-taken : {S : Type 0} (m : IndexMap Key ℕ S) (k : Key) → left m (key_in k) ≡ 0 → Holds m (λ q. left m q - one_if_same q (key_in k))
+pub none-taken : {S : Type 0} (m : IndexMap Key ℕ S) (k : Key) → remaining m (key_in k) ≡ 0 → HasCounts m (λ q. remaining m q - one_if_same q (key_in k))
 none-taken m k none q = none-at m (same_key (key_in q) (key_in k)) (key_in q) (key_in k) refl none
 
 -- ---- the keys so far
@@ -72,11 +72,8 @@ times-next ks i k q h e = ap (λ l. times l q) (take-next ks i k h e) ∙ times-
 key_in-next : (keys : List Key) (i : ℕ) (k : Key) → i < length keys → k ≡ get_or keys i k → map key_in (take (i + 1) keys) ≡ map key_in (take i keys) ++ key_in k ∷ []
 key_in-next keys i k h e = ap (map key_in) (take_more keys i k h ∙ ap (λ y. take i keys ++ y ∷ []) (sym e)) ∙ map-append key_in (take i keys) (k ∷ [])
 
-pub tallied-none : {S : Type 0} (m : IndexMap Key ℕ S) (keys : List Key) → m.entries ≡ [] → Holds m (times (map key_in (take 0 keys)))
-tallied-none m keys e q = rw e
-
 pub tallied-more : {S : Type 0} (m n : IndexMap Key ℕ S) (keys : List Key) (i : ℕ) (k copy : Key) → i < length keys → k ≡ get_or keys i k → key_in copy ≡ key_in k
-    → Holds m (times (map key_in (take i keys))) → Holds n (λ q. left m q + one_if_same q (key_in copy)) → Holds n (times (map key_in (take (i + 1) keys)))
+    → HasCounts m (times (map key_in (take i keys))) → HasCounts n (λ q. remaining m q + one_if_same q (key_in copy)) → HasCounts n (times (map key_in (take (i + 1) keys)))
 tallied-more m n keys i k copy h e same before after q =
     after q ∙ (λ j. before q j + one_if_same (key_in q) (same j))
     ∙ sym (ap (λ l. times l (key_in q)) (key_in-next keys i k h e) ∙ times-push (map key_in (take i keys)) (key_in k) (key_in q))
@@ -91,7 +88,7 @@ minus-sum a b c = omega arith
 
 -- One more entry takes a key of the baseline.
 pub left-next : {S : Type 0} (m n : IndexMap Key ℕ S) (b ks : List EntryKey) (i : ℕ) (k : Key) → i < length ks → key_in k ≡ get_or ks i (key_in k)
-    → Holds m (λ q. times b q - times (take i ks) q) → Holds n (λ q. left m q - one_if_same q (key_in k)) → Holds n (λ q. times b q - times (take (i + 1) ks) q)
+    → HasCounts m (λ q. times b q - times (take i ks) q) → HasCounts n (λ q. remaining m q - one_if_same q (key_in k)) → HasCounts n (λ q. times b q - times (take (i + 1) ks) q)
 left-next m n b ks i k h e before after q =
     after q ∙ ap (λ l. l - one_if_same (key_in q) (key_in k)) (before q)
     ∙ minus-sum (times b (key_in q)) (times (take i ks) (key_in q)) (one_if_same (key_in q) (key_in k))
@@ -101,8 +98,8 @@ more-left : (a b : ℕ) → nat_lt 0 (a - b) ≡ nat_lt b a
 more-left a b = grind (arith, nat_tests)
 
 -- An entry is known if an occurrence of its key is left.
-pub known-left : {S : Type 0} (m : IndexMap Key ℕ S) (b ks : List EntryKey) (i : ℕ) (k : Key) → Holds m (λ q. times b q - times (take i ks) q)
-    → nat_lt 0 (left m (key_in k)) ≡ is_known b (take i ks) (key_in k)
+pub known-left : {S : Type 0} (m : IndexMap Key ℕ S) (b ks : List EntryKey) (i : ℕ) (k : Key) → HasCounts m (λ q. times b q - times (take i ks) q)
+    → nat_lt 0 (remaining m (key_in k)) ≡ is_known b (take i ks) (key_in k)
 known-left m b ks i k before = ap (nat_lt 0) (before k) ∙ more-left (times b (key_in k)) (times (take i ks) (key_in k))
 
 -- The unknown positions so far.
@@ -137,7 +134,7 @@ pub next-known : (b ks : List EntryKey) (i : ℕ) (k : EntryKey) → i < length 
     → so_far b ks (i + 1) ≡ so_far b ks i
 next-known b ks i k h e is = so_far-next b ks i k false h e (ap not is) ∙ append-nil (so_far b ks i)
 
-pub all-unknown : (b ks : List EntryKey) (i : ℕ) → length ks ≤ i → so_far b ks i ≡ unknown_keys b ks
+pub all-unknown : (b ks : List EntryKey) (i : ℕ) → length ks ≤ i → so_far b ks i ≡ unknown_key_positions b ks
 all-unknown b ks i h =
     let past : length (enumerate_from 0 ks) ≤ i = omega (arith, length-enumerate_from 0 ks) in
     ap (λ l. map (λ (p : ℕ × EntryKey). p.0) (filter (is_unknown b ks) l)) (take_all i (enumerate_from 0 ks) past)

@@ -1,4 +1,6 @@
--- What a baseline holds: a report in JSON, read as the keys of its entries. Members that no definition here names are ignored.
+-- A baseline: a report in JSON, read as the keys of its entries. Members that no definition here names are ignored. A baseline
+-- recognizes an entry by its key: the path, and the subject, which is the call, the kind of the outcome, and the degree, the
+-- exceeded limit or the cause of a refusal.
 use Rattle.std.specs.Prelude.{◌≡◌, ℕ, ◌≤◌, ◌^◌, false, ◌||◌, ◌==◌, nat_lt, List, [], ◌∷◌, Option, Some, None, option_map, option_and_then, codes, find, length, map, IsUtf8, if◌then◌else◌}
 use Rattle.std.specs.Option.{option_map_or}
 use Rattle.std.specs.Str.{bytes_eq}
@@ -23,7 +25,8 @@ kind_names =
     codes "degree" ∷ codes "exponential" ∷ codes "undecided" ∷ codes "refused" ∷ codes "unreadable" ∷ codes "too-deep-folder"
     ∷ codes "not-plain" ∷ []
 
--- The names of the limits.
+-- The names of the limits by which a verdict can be undecided: the size, letters and moves of a pattern, the sets of states
+-- and the live pairs that are explored.
 abbrev pub limit_names : List Text
 limit_names = map limit_name (Size ∷ Letters ∷ Moves ∷ Sets ∷ Pairs ∷ [])
 
@@ -39,21 +42,21 @@ cause_names =
     ∷ codes "conditional" ∷ codes "atomic" ∷ codes "inner-anchor"
     ∷ codes "word-boundary" ∷ codes "multiline-anchor" ∷ []
 
--- The name that equals the text, if there is one.
+-- The first name in the list that equals the text, or none if no name does.
 abbrev pub one_of : List Text → Text → Option Text
 one_of names text = find (λ name. bytes_eq name text) names
 
 -- ---- the members of an object
 
--- The string under a key, if the object has one there.
+-- The string under a key, or none if the value isn't an object with a string there.
 abbrev pub text_at : Text → Data → Option Text
 text_at key d = option_and_then as_str (get key d)
 
--- The name under a key, if the object has one of these names there.
+-- The name under a key, or none if the value isn't an object with one of these names there.
 abbrev pub name_at : List Text → Text → Data → Option Text
 name_at names key d = option_and_then (one_of names) (text_at key d)
 
--- The number under a key, if the object has one of at most 64 bits there.
+-- The number under a key, or none if the value isn't an object with a whole number from 0 to 2^64 - 1 there.
 abbrev pub number_at : Text → Data → Option ℕ
 number_at key d = option_and_then as_u64 (option_and_then as_number (get key d))
 
@@ -63,12 +66,13 @@ number_at key d = option_and_then as_u64 (option_and_then as_number (get key d))
 abbrev pub plain : Option Text → Text → Subject
 plain call kind = record { call = call; kind = kind; degree = None; limit = None; cause = None }
 
--- A number that fits in 32 bits, or `None`.
+-- The number if it is less than 2^32, or none.
 abbrev pub fitting : ℕ → Option ℕ
 fitting n = if nat_lt n (2 ^ 32) then Some n else None
 
--- The subject of an entry with this call and kind. A degree needs its number, an undecided entry its limit, and a refusal its
--- cause; without it there is no subject.
+-- The subject of the entry `d` with this call and kind. The kind `degree` needs a number below 2^32 as `degree`, `undecided`
+-- the name of a limit as `limit`, and `refused` the name of a cause as `cause`; without it there is no subject. Every other
+-- kind needs nothing.
 abbrev pub subject_of_kind : Option Text → Text → Data → Option Subject
 subject_of_kind call kind d =
     if bytes_eq kind (codes "degree")
@@ -79,17 +83,18 @@ subject_of_kind call kind d =
     then option_map (λ name. record (plain call kind) { cause = Some name }) (name_at cause_names (codes "cause") d)
     else Some (plain call kind)))
 
--- The call of an entry: `Some None` if it has none, and `None` if it has one that isn't one of the nine names.
+-- The call of an entry: `Some None` if it has none, and `None` if it has a value there that isn't one of the nine names.
 abbrev pub call_found : Option Data → Option (Option Text)
 call_found call = option_map_or (λ d. option_map Some (option_and_then (one_of call_names) (as_str d))) call (Some None)
 
--- The subject of an entry, if the entry has the right form.
+-- The subject of an entry: its call and kind, with the degree, limit or cause that the kind needs. None if the kind is missing
+-- or isn't a known name, if there is a call that isn't one, or if what the kind needs is missing or wrong.
 abbrev pub subject_read : Data → Option Subject
 subject_read d =
     option_and_then (λ call. option_and_then (λ kind. subject_of_kind call kind d) (name_at kind_names (codes "kind") d))
     (call_found (get (codes "call") d))
 
--- The key of an entry, if the entry has the right form.
+-- The key of an entry, or none if it isn't an object with a string as its path, or if it has no subject (`subject_read`).
 abbrev pub key_read : Data → Option EntryKey
 key_read d =
     option_and_then (λ subject. option_map (λ path. record { path = path; subject = subject }) (text_at (codes "path") d))
@@ -97,18 +102,20 @@ key_read d =
 
 -- ---- the report
 
--- The keys of the entries in order, if each entry has the right form.
+-- The keys of the entries in order, or none if one of the entries has no key, because it doesn't have the right form.
 abbrev pub keys_read : Items → Option (List EntryKey)
 keys_read no_items = Some []
 keys_read (item d ds) = option_and_then (λ key. option_map (λ keys. key ∷ keys) (keys_read ds)) (key_read d)
 
--- The keys of the entries of a report, if its version is 1 or 2.
+-- The keys of the entries of a report, or none if its version isn't 1 or 2, or if it has no array of entries of the right
+-- form.
 abbrev pub report_keys : Data → Option (List EntryKey)
 report_keys d =
     if option_map_or (λ n. n == 1 || n == 2) (number_at (codes "version") d) false
     then option_and_then keys_read (option_and_then as_array (get (codes "entries") d)) else None
 
--- The bytes are a report in JSON that isn't too long, and the entries of the report have these keys.
+-- The bytes are at most `MOST_BASELINE_BYTES`, they are a report in JSON and UTF-8, and the entries of the report have these
+-- keys.
 pub record IsBaseline (bytes : List ℕ) (keys : List EntryKey) : Type 0 where
   pub small : length bytes ≤ MOST_BASELINE_BYTES
   pub utf8 : IsUtf8 bytes

@@ -1,4 +1,7 @@
--- The law that a report in JSON is a baseline that holds the keys of its entries.
+-- The law that a report in JSON is a baseline with the keys of its entries. A baseline recognizes an entry by its key: the
+-- path, and the subject, which is the call, the kind of the outcome, and the degree, the exceeded limit or the cause of a
+-- refusal. An entry is one result of a report: for a call of `re` whose pattern is a literal, for a source that can't be cut
+-- into tokens, or for a path without a source.
 use Rattle.std.specs.Prelude.{◌≡◌, ◌≢◌, ℕ, ◌≤◌, ◌<◌, ◌^◌, ◌⊎◌, List, map, length, All, IfSome, IsUtf8, ⊤}
 use Rattle.rl_pattern.specs.declared.parsing.PatError.TheVariants as pattern_error
 use Rattle.rl_pylex.specs.declared.fault.LexError.TheVariants as lex_error
@@ -19,13 +22,13 @@ use Rattle.rl_sarif.specs.Keys.{key_of}
 abbrev pub FitsPlace : Place → Type 0
 FitsPlace p = (p.line < 2 ^ 32) × (p.column < 2 ^ 32)
 
--- The degree of the verdict, if it has one, fits in 32 bits.
+-- The verdict's degree fits in 32 bits. This also holds if the verdict isn't a degree.
 abbrev pub FitsVerdict : Verdict → Type 0
 FitsVerdict (Degree d family) = d < 2 ^ 32
 FitsVerdict (Expo family) = ⊤
 FitsVerdict (Undecided limit) = ⊤
 
--- The outcome isn't that memory ran out.
+-- The outcome is an answer: it isn't that memory ran out.
 abbrev pub IsAnswer : Outcome → Type 0
 IsAnswer outcome.Unreadable = ⊤
 IsAnswer outcome.TooDeepFolder = ⊤
@@ -37,7 +40,9 @@ IsAnswer outcome.FlagsUnknown = ⊤
 IsAnswer (outcome.Pattern e) = e ≢ pattern_error.OutOfMemory
 IsAnswer (outcome.Judged verdict suggestion becomes) = ⊤
 
--- The entry is one that the program can build: its parts are values of their types, and its outcome isn't that memory ran out.
+-- The entry is one that the program can build: its path is UTF-8; the lines and columns of its place, of the place of its
+-- fault and of its marks fit in 32 bits, and so do the degrees of its verdict and of the verdict on the suggested pattern; and
+-- its outcome isn't that memory ran out. What an entry doesn't have needs nothing.
 pub record IsSound (e : Entry) : Type 0 where
   pub path : IsUtf8 e.path
   pub at : IfSome e.at FitsPlace
@@ -49,7 +54,9 @@ pub record IsSound (e : Entry) : Type 0 where
   pub becomes : IfSome (becomes_of e.outcome) FitsVerdict
   pub answer : IsAnswer e.outcome
 
--- If a report in JSON is of version 1 or 2 and isn't too long, it is a baseline that holds the keys of its entries.
+-- A report in JSON is a baseline with the keys of its entries, in order, if its version is 1 or 2, it has at most
+-- `MOST_BASELINE_BYTES` bytes, `max_pairs` is below 2^32, there are fewer than 2^64 entries, and they are ones that the
+-- program can build.
 abbrev pub IsOwnBaseline : ℕ → ℕ → ℕ → List Entry → Type 0
 IsOwnBaseline max_degree max_pairs report entries =
     max_pairs < 2 ^ 32 → (report ≡ 1) ⊎ (report ≡ 2) → length entries < 2 ^ 64 → All IsSound entries

@@ -34,6 +34,7 @@ fn array_of(alloc: Global, value: Value) -> Result<Value, OutOfMemory>
     Ok(Value::Array(values))
 }
 
+/// Adds a key with this string to the members.
 fn put_text(alloc: Global, members: &mut Members, key: &str, text: &str) -> Result<(), OutOfMemory>
     ensures { OnOk result (members_view members.new.entries
         ≡ put key.now (string text.now) (members_view members.old.entries)) }
@@ -43,12 +44,14 @@ fn put_text(alloc: Global, members: &mut Members, key: &str, text: &str) -> Resu
     Ok(())
 }
 
+/// Returns the region that starts at a place.
 fn region_value(alloc: Global, place: Place) -> Result<Value, OutOfMemory>
     ensures { IfOk result (λ v. view v ≡ region_data place) }
 {
     Ok(json!(in alloc; {"startColumn": place.column, "startLine": place.line})?)
 }
 
+/// Adds the region of the entry, if it has a place.
 fn put_region(alloc: Global, members: &mut Members, at: Option<Place>) -> Result<(), OutOfMemory>
     ensures { OnOk result (members_view members.new.entries
         ≡ put_some (codes "region") region_data at (members_view members.old.entries)) }
@@ -63,6 +66,7 @@ fn put_region(alloc: Global, members: &mut Members, at: Option<Place>) -> Result
     }
 }
 
+/// Returns the object with the path as a URI.
 fn artifact_value(alloc: Global, path: &str) -> Result<Value, OutOfMemory>
     ensures { IfOk result (λ v. view v ≡ object (put (codes "uri") (string (uri_text path.now)) no_members)) }
 {
@@ -70,6 +74,7 @@ fn artifact_value(alloc: Global, path: &str) -> Result<Value, OutOfMemory>
     object_of(alloc, "uri", Value::from(uri))
 }
 
+/// Returns the physical location of an entry: the URI of its path and, if it has a place, the region.
 fn physical_value(alloc: Global, entry: &Entry) -> Result<Value, OutOfMemory>
     ensures { IfOk result (λ v. view v ≡ physical_data entry.now) }
 {
@@ -80,6 +85,7 @@ fn physical_value(alloc: Global, entry: &Entry) -> Result<Value, OutOfMemory>
     Ok(Value::Object(members))
 }
 
+/// Returns the location of an entry.
 fn location_value(alloc: Global, entry: &Entry) -> Result<Value, OutOfMemory>
     ensures { IfOk result (λ v. view v ≡ location_data entry.now) }
 {
@@ -101,8 +107,8 @@ fn message(alloc: Global, entry: &Entry, max_pairs: u32) -> Result<String, OutOf
     }
 }
 
-/// Adds the message and the rule of an entry.
-fn put_told(
+/// Adds the message of an entry, and as its rule the name of its kind.
+fn put_rule_and_message(
     alloc: Global,
     members: &mut Members,
     entry: &Entry,
@@ -119,6 +125,7 @@ fn put_told(
     put_text(alloc, members, "ruleId", entry.outcome.kind())
 }
 
+/// Returns the result for an entry.
 fn result_value(alloc: Global, entry: &Entry, max_pairs: u32) -> Result<Value, OutOfMemory>
     ensures { IfOk result (λ v. view v ≡ result_data max_pairs entry.now) }
 {
@@ -126,17 +133,18 @@ fn result_value(alloc: Global, entry: &Entry, max_pairs: u32) -> Result<Value, O
     let locations = array_of(alloc, location)?;
     let mut members = Map::new(alloc);
     put(&mut members, alloc, "locations", locations)?;
-    put_told(alloc, &mut members, entry, max_pairs)?;
+    put_rule_and_message(alloc, &mut members, entry, max_pairs)?;
     Ok(Value::Object(members))
 }
 
-/// Whether the document has a result for the entry: it is a finding, refused or undecided.
+/// Returns whether the document has a result for the entry: it is a finding, refused or undecided.
 fn is_result(entry: &Entry, max_degree: u32) -> bool
     ensures { result ≡ is_result max_degree entry.now }
 {
     entry.is_finding(max_degree) || entry.is_refused() || entry.is_undecided()
 }
 
+/// Returns the array of the results, in the order of the entries.
 fn results_value(
     alloc: Global,
     entries: &[Entry],
@@ -155,6 +163,7 @@ fn results_value(
     Ok(Value::Array(values))
 }
 
+/// Returns the tool that makes the document.
 fn tool_value(alloc: Global) -> Result<Value, OutOfMemory>
     ensures { IfOk result (λ v. view v ≡ tool_data) }
 {
@@ -176,6 +185,7 @@ fn put_run(alloc: Global, members: &mut Members, results: Value) -> Result<(), O
     Ok(())
 }
 
+/// Returns the run with these results.
 fn run_value(alloc: Global, results: Value) -> Result<Value, OutOfMemory>
     ensures { IfOk result (λ v. view v ≡ run_data (view results)) }
 {
@@ -184,6 +194,7 @@ fn run_value(alloc: Global, results: Value) -> Result<Value, OutOfMemory>
     Ok(Value::Object(members))
 }
 
+/// Returns the document with these results.
 fn document_value(alloc: Global, results: Value) -> Result<Value, OutOfMemory>
     ensures { IfOk result (λ v. view v ≡ document_data (view results)) }
 {
@@ -195,8 +206,9 @@ fn document_value(alloc: Global, results: Value) -> Result<Value, OutOfMemory>
     Ok(Value::Object(members))
 }
 
-/// Returns the report as a SARIF 2.1.0 document, in one line with the keys in the order of their bytes. It has a result for
-/// each entry, in order, except those whose verdict is a degree up to `max_degree`. `max_pairs` is the limit of live pairs.
+/// Returns the report as a SARIF 2.1.0 document: one line, with a line feed at the end and the keys of each object in the
+/// order of their bytes. It has a result for each entry, in order, except those whose verdict is a degree of at most
+/// `max_degree`. `max_pairs` is the limit of live pairs, which a message shows if that limit was exceeded.
 ///
 /// # Errors
 /// [`OutOfMemory`] if memory runs out.

@@ -1,4 +1,5 @@
-//! The keys by which a baseline recognizes entries.
+//! The keys by which a baseline recognizes entries. An entry is one result of a report: for a call of `re` whose pattern is a
+//! literal, for a source that can't be cut into tokens, or for a path without a source.
 ghost use Rattle.std.specs.Prelude.{◌≡◌, IfOk, option_and_then, option_map};
 ghost use Rattle.rl_sites.specs.Names.{call_word};
 ghost use Rattle.rl_sarif.specs.Keys.{degree_of, key_in, key_of, limit_of, subject_in, subject_of};
@@ -10,7 +11,7 @@ use rl_syntax::Verdict;
 use std::alloc::{AllocError, Global};
 use std::marker::Model;
 
-/// The part of a key that doesn't depend on the path, in the names of a report.
+/// What a key has besides the path: the call, the kind, and the degree, limit or cause. The names are as a report shows them.
 #[derive(Clone, Copy, PartialEq, Eq, Hash)]
 pub struct About {
     /// The name of the call, if there is one.
@@ -28,10 +29,13 @@ pub struct About {
 /// The key of an entry: its path, its call, its kind, and its degree, limit or cause.
 #[derive(PartialEq, Eq, Hash, Drop)]
 pub struct Key {
+    /// The path.
     pub(crate) path: String,
+    /// Everything besides the path.
     pub(crate) about: About,
 }
 
+/// Returns the name of the call, if there is one.
 fn named(call: Option<Call>) -> Option<&'static str>
     ensures { option_map (λ n. n.now) result ≡ option_map call_word call }
 {
@@ -41,6 +45,7 @@ fn named(call: Option<Call>) -> Option<&'static str>
     }
 }
 
+/// Returns the degree, if there is a verdict and it is a degree.
 fn degree_of(verdict: Option<&Verdict>) -> Option<u32>
     ensures { result ≡ option_and_then degree_of (option_map (λ v. v.now) verdict.entry) }
 {
@@ -50,6 +55,7 @@ fn degree_of(verdict: Option<&Verdict>) -> Option<u32>
     }
 }
 
+/// Returns the name of the limit, if there is a verdict and it is `undecided`.
 fn limit_of(verdict: Option<&Verdict>) -> Option<&'static str>
     ensures { option_map (λ n. n.now) result ≡ option_and_then limit_of (option_map (λ v. v.now) verdict.entry) }
 {
@@ -60,7 +66,7 @@ fn limit_of(verdict: Option<&Verdict>) -> Option<&'static str>
 }
 
 impl About {
-    /// Returns what the key of an entry holds beside the path.
+    /// Returns what the key of an entry has besides the path.
     pub(crate) fn of(entry: &Entry) -> About
         ensures { subject_in result ≡ subject_of entry.now }
     {
@@ -100,9 +106,10 @@ impl Clone for Key {
     }
 }
 
-/// A baseline that was read. For contracts it is the list of its keys, in order.
+/// The keys of the entries of a baseline that was read. For contracts it is the list of these keys.
 #[derive(Drop)]
 pub struct KnownKeys {
+    /// The keys of the entries of the baseline, in their order.
     pub(crate) keys: Vec<Key>,
 }
 

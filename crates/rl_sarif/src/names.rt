@@ -1,4 +1,4 @@
-//! The names that a baseline may hold.
+//! The names that a baseline may have, of calls, kinds, limits and causes. Any other name is refused.
 ghost use Rattle.std.specs.Prelude.{◌≡◌, map, option_map};
 ghost use Rattle.rl_sarif.specs.Baseline.{call_names, cause_names, kind_names, limit_names, one_of};
 
@@ -6,6 +6,7 @@ use rl_report::{call_name, limit_name};
 use rl_sites::Call;
 use rl_syntax::Limit;
 
+/// The names of the kinds of entries.
 const KINDS: &[&str] = &[
     "degree",
     "exponential",
@@ -16,7 +17,7 @@ const KINDS: &[&str] = &[
     "not-plain",
 ];
 
-/// Only older reports use the last two names.
+/// The names of the causes of refusals. Only older reports use the last two names.
 const CAUSES: &[&str] = &[
     "not-utf8",
     "coding",
@@ -62,7 +63,7 @@ fn one_of(names: &[&'static str], text: &str) -> Option<&'static str>
     None
 }
 
-/// Returns the name of a call that the text spells, if it spells one.
+/// Returns the name of a call that the text is, or `None` if it is none of them.
 pub(crate) fn call_named(text: &str) -> Option<&'static str>
     ensures { option_map (λ n. n.now) result ≡ one_of call_names text.now }
 {
@@ -80,14 +81,14 @@ pub(crate) fn call_named(text: &str) -> Option<&'static str>
     one_of(names.as_slice(), text)
 }
 
-/// Returns the name of a kind of entries that the text spells, if it spells one.
+/// Returns the name of a kind of entries that the text is, or `None` if it is none of them.
 pub(crate) fn kind_named(text: &str) -> Option<&'static str>
     ensures { option_map (λ n. n.now) result ≡ one_of kind_names text.now }
 {
     one_of(KINDS, text)
 }
 
-/// Returns the name of a limit that the text spells, if it spells one.
+/// Returns the name of a limit that the text is, or `None` if it is none of them.
 pub(crate) fn limit_named(text: &str) -> Option<&'static str>
     ensures { option_map (λ n. n.now) result ≡ one_of limit_names text.now }
 {
@@ -101,7 +102,7 @@ pub(crate) fn limit_named(text: &str) -> Option<&'static str>
     one_of(names.as_slice(), text)
 }
 
-/// Returns the name of a refusal's cause that the text spells, if it spells one.
+/// Returns the name of a refusal's cause that the text is, or `None` if it is none of them.
 pub(crate) fn cause_named(text: &str) -> Option<&'static str>
     ensures { option_map (λ n. n.now) result ≡ one_of cause_names text.now }
 {

@@ -1,8 +1,9 @@
-//! The entries that a baseline doesn't know.
+//! The entries that a baseline doesn't know. A baseline recognizes an entry by its key: the path, and the subject, which is
+//! the call, the kind of the outcome, and the degree, the exceeded limit or the cause of a refusal.
 ghost use Rattle.std.specs.Prelude.{◌≡◌, IfOk, map};
 ghost use Rattle.rl_sarif.specs.Keys.{key_in};
 ghost use Rattle.rl_sarif.specs.Known.{unknown_positions};
-ghost use Rattle.rl_sarif.specs.internal.Tally.{Holds};
+ghost use Rattle.rl_sarif.specs.internal.Tally.{HasCounts};
 
 use crate::key::{Key, KnownKeys};
 use crate::tally::{Tally, add_all, take};
@@ -21,7 +22,7 @@ fn unknown_to(
     entries: &[Entry],
     keys: &[Key],
 ) -> Result<Positions, OutOfMemory>
-    requires { Holds tally.old (λ _. 0) }
+    requires { HasCounts tally.old (λ _. 0) }
     ensures { IfOk result (λ positions. positions ≡ unknown_positions (map key_in keys.now) entries.now) }
 {
     add_all(tally, keys)?;
@@ -35,8 +36,8 @@ fn unknown_to(
     Ok(positions)
 }
 
-/// Returns the positions of the entries that the baseline doesn't know, counted from 0 and in order. An entry is known if fewer
-/// entries before it have its key than the baseline holds with that key.
+/// Returns the positions of the entries that the baseline `known` doesn't know, counted from 0 and in order. An entry is known
+/// if the baseline has its key more often than the entries before it. If the baseline has no keys, no entry is known.
 ///
 /// # Errors
 /// [`OutOfMemory`] if memory runs out.

@@ -1,4 +1,6 @@
-//! A baseline: a report in JSON, read as the keys of its entries.
+//! Reading a baseline: an earlier report in JSON, read as the keys of its entries. A baseline recognizes an entry by its key:
+//! the path, and the subject, which is the call, the kind of the outcome, and the degree, the exceeded limit or the cause of a
+//! refusal.
 ghost use Rattle.std.specs.Prelude.{◌≡◌, ◌||◌, ◌==◌, IfOk, IsUtf8, List, None, Some, codes, false, map, option_and_then, option_map};
 ghost use Rattle.std.specs.Option.{option_map_or};
 ghost use Rattle.serde_json.specs.Find.{get};
@@ -14,10 +16,10 @@ use rl_lists::Bytes;
 use serde_json::Value;
 use std::alloc::{AllocError, AllocFailed, Global};
 
-/// Why bytes aren't read as a baseline.
+/// Why no keys are read from bytes.
 #[derive(Clone, Copy)]
 pub enum BaselineError {
-    /// There are too many bytes, or they aren't JSON, or the JSON isn't a report.
+    /// There are more than 67,108,864 bytes, or they aren't UTF-8 or JSON, or the JSON value isn't a report of the right form.
     Refused,
     /// Memory ran out.
     OutOfMemory,
@@ -43,12 +45,14 @@ impl<T: Drop> From<AllocFailed<T>> for BaselineError {
     }
 }
 
+/// Returns the string under a key, or `None` if the value isn't an object with a string there.
 fn text_at<'v>(value: &'v Value, key: &str) -> Option<&'v str>
     ensures { option_map (λ t. t.now) result ≡ text_at key.now (view value.now) }
 {
     value.get(key).and_then(Value::as_str)
 }
 
+/// Returns the number under a key, or `None` if the value isn't an object with a whole number from 0 to 2^64 - 1 there.
 fn number_at(value: &Value, key: &str) -> Option<u64>
     ensures { result ≡ number_at key.now (view value.now) }
 {
@@ -67,6 +71,7 @@ fn degree_at(value: &Value) -> Option<u32>
     }
 }
 
+/// Returns the name of the limit of an entry, or `None` if it has none that is known.
 fn limit_at(value: &Value) -> Option<&'static str>
     ensures { option_map (λ n. n.now) result ≡ name_at limit_names (codes "limit") (view value.now) }
 {
@@ -76,6 +81,7 @@ fn limit_at(value: &Value) -> Option<&'static str>
     }
 }
 
+/// Returns the name of the cause of an entry, or `None` if it has none that is known.
 fn cause_at(value: &Value) -> Option<&'static str>
     ensures { option_map (λ n. n.now) result ≡ name_at cause_names (codes "cause") (view value.now) }
 {
@@ -85,6 +91,7 @@ fn cause_at(value: &Value) -> Option<&'static str>
     }
 }
 
+/// Returns the name of the kind of an entry, or `None` if it has none that is known.
 fn kind_at(value: &Value) -> Option<&'static str>
     ensures { option_map (λ n. n.now) result ≡ name_at kind_names (codes "kind") (view value.now) }
 {
@@ -110,6 +117,7 @@ fn call_at(value: &Value) -> Option<Option<&'static str>>
     }
 }
 
+/// Returns `plain` with the degree of the entry, or `None` if it has none that fits in 32 bits.
 fn with_degree(value: &Value, plain: About) -> Option<About>
     ensures { option_map subject_in result
         ≡ option_map (λ n. record (subject_in plain) { degree = Some n }) (option_and_then fitting (number_at (codes "degree") (view value.now))) }
@@ -123,6 +131,7 @@ fn with_degree(value: &Value, plain: About) -> Option<About>
     }
 }
 
+/// Returns `plain` with the limit of the entry, or `None` if it has none that is known.
 fn with_limit(value: &Value, plain: About) -> Option<About>
     ensures { option_map subject_in result
         ≡ option_map (λ name. record (subject_in plain) { limit = Some name }) (name_at limit_names (codes "limit") (view value.now)) }
@@ -136,6 +145,7 @@ fn with_limit(value: &Value, plain: About) -> Option<About>
     }
 }
 
+/// Returns `plain` with the cause of the entry, or `None` if it has none that is known.
 fn with_cause(value: &Value, plain: About) -> Option<About>
     ensures { option_map subject_in result
         ≡ option_map (λ name. record (subject_in plain) { cause = Some name }) (name_at cause_names (codes "cause") (view value.now)) }
@@ -149,8 +159,8 @@ fn with_cause(value: &Value, plain: About) -> Option<About>
     }
 }
 
-/// Returns what the key of an entry with this call and kind holds beside the path. A degree needs its number, an undecided
-/// entry its limit, and a refusal its cause.
+/// Returns what the key of an entry with this call and kind has besides the path, or `None` if the entry lacks what its kind
+/// needs: a degree its number, an undecided entry its limit, and a refusal its cause.
 fn about_of_kind(value: &Value, call: Option<&'static str>, kind: &'static str) -> Option<About>
     ensures { option_map subject_in result
         ≡ subject_of_kind (option_map (λ n. n.now) call.entry) kind.now (view value.now) }
@@ -173,6 +183,7 @@ fn about_of_kind(value: &Value, call: Option<&'static str>, kind: &'static str) 
     }
 }
 
+/// Returns what the key of an entry has besides the path, or `None` if the entry doesn't have the right form.
 fn about_at(value: &Value) -> Option<About>
     ensures { option_map subject_in result ≡ subject_read (view value.now) }
 {
@@ -210,7 +221,7 @@ fn keys_of(alloc: Global, values: &[Value]) -> Result<Vec<Key>, BaselineError>
     Ok(keys)
 }
 
-/// Whether the report has a version that is 1 or 2.
+/// Returns whether the report has a version that is 1 or 2.
 fn has_version(value: &Value) -> bool
     ensures { result ≡ option_map_or (λ n. n == 1 || n == 2) (number_at (codes "version") (view value.now)) false }
 {
@@ -251,7 +262,9 @@ fn value_of(alloc: Global, bytes: &[u8]) -> Result<Value, BaselineError>
     }
 }
 
-/// Reads a baseline: a report in JSON, of version 1 or 2 and at most 67,108,864 bytes. Members that no key needs are ignored.
+/// Returns the keys of the baseline that the bytes hold: those of the entries of the report, in their order. The report must
+/// be in JSON and UTF-8, of version 1 or 2, with at most 67,108,864 bytes. Each entry needs a path and a kind, and a degree,
+/// limit or cause if its kind has one; its call may be missing. All other members are ignored.
 ///
 /// # Errors
 /// [`BaselineError::Refused`] if the bytes aren't such a report; [`BaselineError::OutOfMemory`] if memory runs out.

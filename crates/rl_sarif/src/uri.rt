@@ -6,13 +6,14 @@ ghost use Rattle.rl_sarif.specs.Sarif.{is_kept, uri_byte, uri_text};
 use rl_lists::OutOfMemory;
 use std::alloc::Global;
 
-/// Whether a byte of a path stays as it is in the URI: an ASCII letter, a digit, `-`, `.`, `_`, `~` or `/`.
+/// Returns whether a byte of a path stays as it is in the URI: an ASCII letter, a digit, `-`, `.`, `_`, `~` or `/`.
 fn is_kept(byte: u8) -> bool
     ensures { result ≡ is_kept byte }
 {
     matches!(byte, b'A'..=b'Z' | b'a'..=b'z' | b'0'..=b'9' | b'-' | b'.' | b'_' | b'~' | b'/')
 }
 
+/// Returns a hexadecimal digit, in upper case.
 fn hex_digit(digit: u8) -> char
     requires { digit < 16 }
     ensures { result ≡ digit_glyph true digit }

@@ -99,9 +99,6 @@ lives-noted w a longer k life made same lt is n below =
       | inr other ↦ subst (IsLife a w.kept.routes (set_at w n)) (sym (get_or-set_other longer k n life Unknown other ∙ same n)) (made.lives n below)
     ]
 
-pub lives-same : (w : Walk) (a : Automaton) (longer : List Life) → IsMadeFor w a → ((n : ℕ) → get_or longer n Unknown ≡ get_or w.kept.lives n Unknown) → (n : ℕ) → n < length w.sets → IsLife a w.kept.routes (set_at w n) (get_or longer n Unknown)
-lives-same w a longer made same n below = subst (IsLife a w.kept.routes (set_at w n)) (sym (same n)) (made.lives n below)
-
 -- A route through a letter.
 pub HasRoute-more : (a : Automaton) (routes : List Route) (set : List ℕ) (letter next : ℕ) → letter < letters_count a → HasRoute a routes (image a set letter) next → ((word : List ℕ) → refuses a set (letter ∷ word) ≡ refuses a (image a set letter) word)
     → HasRoute a (routes ++ On letter next ∷ []) set (length routes)

@@ -153,12 +153,6 @@ alike-more a row from q before letter h least e = λ k lt member. elim (cases_lt
   ]
 ]
 
-pub alike-all : (a : Automaton) (row : List Bool) (from before letter : ℕ) → MoveAlike a row from before letter → NoneFrom row from → MoveAlike a row (length row) before letter
-alike-all a row from before letter h none = λ k lt member. elim (cases_lt k from) [
-  | inl less ↦ h k less member
-  | inr more ↦ absurd (false≢true (sym (none k more) ∙ member))
-]
-
 reaches-alike : (a : Automaton) (row : List Bool) (before letter t : ℕ) → MoveAlike a row (length row) before letter → reaches a before (members_of row) t ≡ reaches a letter (members_of row) t
 unfolding members_of
 reaches-alike a row before letter t h =

@@ -158,16 +158,6 @@ pub set_stays : (old new : List (List ℕ)) (set : List ℕ) (n k : ℕ) → IsL
 set_stays old new set n k listed lt =
     elim listed.grown [ inl same ↦ ap (λ l. get_or l k []) same | inr more ↦ ap (λ l. get_or l k []) more.1 ∙ get_or_append_left old (set ∷ []) [] k lt ]
 
--- A set that is listed, or that no room is left for, in equal lists.
-pub IsListed-same : (old mid new last : List (List ℕ)) (set members : List ℕ) (n : ℕ) → IsListed mid new members n → mid ≡ old → last ≡ new → members ≡ set → IsListed old last set n
-IsListed-same old mid new last set members n listed before after same =
-    subst (λ (s : List ℕ). IsListed old last s n) same
-    (subst (λ (l : List (List ℕ)). IsListed old l members n) (sym after) (subst (λ (l : List (List ℕ)). IsListed l new members n) before listed))
-
-pub IsFull-same : (old mid : List (List ℕ)) (limit before_limit : ℕ) (set members : List ℕ) → IsFull mid before_limit members → mid ≡ old → before_limit ≡ limit → members ≡ set → IsFull old limit set
-IsFull-same old mid limit before_limit set members full before limits same =
-    subst (λ (s : List ℕ). IsFull old limit s) same (subst (λ (n : ℕ). IsFull old n members) limits (subst (λ (l : List (List ℕ)). IsFull l before_limit members) before full))
-
 -- ---- a walk that is asked for a set
 -- The walk after a set was added or refused.
 pub IsAsked-added : (old new : Walk) (a : Automaton) (set members : List ℕ) (r : Result ℕ SetsError) → IsMadeFor old a → IsSetOf a set → members ≡ set → IfOk r (IsListed old.sets new.sets members) → IfOk r (λ n. n < length new.sets) → length old.sets ≤ length new.sets → length new.sets ≤ new.limit → new.limit ≡ old.limit → new.kept ≡ old.kept

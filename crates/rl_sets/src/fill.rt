@@ -4,7 +4,7 @@ ghost use Rattle.std.specs.Prelude.{◌≡◌, ℕ, ◌≤◌, max, length, slic
 
 use rl_lists::OutOfMemory;
 
-/// Appends `filler` until the list has at least `len` items.
+/// Appends `filler` until the list has `len` items. A list that already has as many or more is unchanged.
 pub(crate) fn lengthen<T: Copy + Drop>(
     list: &mut Vec<T>,
     len: usize,

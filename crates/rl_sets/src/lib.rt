@@ -1,10 +1,11 @@
 //! The powerset construction on demand, here called "set walk": sets of states of an ordered automaton, each of which is
-//! found once and has a number.
+//! stored once and has a number.
 //!
 //! A [`SetWalk`] is the list of the sets found so far. [`SetWalk::intern`] returns the number of a set, [`SetWalk::step`]
 //! returns the number of the image of a set on a letter, and [`SetWalk::join`] returns the number of a set with one more
 //! member. [`SetWalk::refused_rest`] searches breadth first for a rest of a text that no member of a set accepts; a set for
-//! which there is such a rest is live. Sets are stored as rows of bits, and images are computed once and kept.
+//! which there is such a rest is live. A rest is a list of letters followed by the end letter. Sets are stored as rows of
+//! bits, and images are computed once and kept.
 //!
 //! # What is proved
 //!

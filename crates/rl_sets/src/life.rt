@@ -1,4 +1,5 @@
-//! What is known of the rests that a set refuses.
+//! What is known of the rests that a set refuses. A rest is a list of letters followed by the end letter, and a set refuses it
+//! if none of its members accepts it.
 
 ghost use Rattle.std.specs.Prelude.{◌≡◌, ℕ, List, IfOk};
 ghost use Rattle.rl_sets.specs.Rests.{Routed};
@@ -17,16 +18,17 @@ pub enum Life {
     Dead,
 }
 
-/// The description of a refused rest: its first letter, and the number of an earlier route for the letters that follow.
+/// The description of a refused rest, which is a list of letters followed by the end letter. Routes are kept in one list, and
+/// the number of a route is its index there, from 0. Each route refers only to earlier ones.
 #[derive(Clone, Copy)]
 pub enum Route {
-    /// Only the end letter.
+    /// The rest that consists of only the end letter.
     End,
-    /// A letter, followed by the rest that the route with this number describes.
+    /// The given letter, followed by the rest that the route with the given number describes.
     On(u32, usize),
 }
 
-/// Returns the rest that a route describes; `end` is the end letter.
+/// Returns the rest that the route with the number `route` in the list `routes` describes; `end` is the end letter.
 pub(crate) fn word_of(
     alloc: Global,
     routes: &[Route],

@@ -1,4 +1,7 @@
-//! The search for a rest that a set refuses.
+//! The breadth-first search for a rest that a set refuses.
+//!
+//! The search lists the numbers of the sets that it finds; the place of a set is its index in this list, from 0. A route for a
+//! set is the number of a route (`Route`) that describes a rest that the set refuses.
 
 ghost use Rattle.std.specs.Prelude.{◌≡◌, ◌+◌, ◌<◌, ◌≤◌, false, length, IfOk, IfErr, OnOk, IfSome, IfNone};
 ghost use Rattle.rl_prio.specs.Automaton.{Automaton, letters_count, accepting_state};
@@ -16,22 +19,27 @@ use rl_lists::{OutOfMemory, Word};
 use rl_prio::Prio;
 use std::alloc::Global;
 
-/// How a set was found: as the image, on `letter`, of the set at the place `parent`.
+/// How a set was found: as the image, on `letter`, of the set at the place `parent`. For the first set, the values have no
+/// meaning.
 #[derive(Clone, Copy)]
 struct Way {
+    /// The place of the earlier set.
     parent: usize,
+    /// The letter, which isn't the end letter.
     letter: u32,
 }
 
-/// The numbers of the sets that a search has found, in order, and how each of them was found.
+/// A search for a refused rest: the sets that it has found, in order, and how each of them was found.
 #[derive(Drop)]
 pub(crate) struct RestSearch {
+    /// The numbers of the sets, by place.
     numbers: IndexSet<u32>,
+    /// How each set was found, by place.
     ways: Vec<Way>,
 }
 
 impl RestSearch {
-    /// Creates a search that hasn't begun. It allocates no memory.
+    /// Returns a search that has found no set. It allocates no memory.
     pub(crate) fn new(alloc: Global) -> RestSearch {
         RestSearch {
             numbers: IndexSet::new(alloc),
@@ -39,7 +47,8 @@ impl RestSearch {
         }
     }
 
-    /// Restarts the search from a set. Earlier results are dropped, and their memory is used again.
+    /// Restarts the search from the set with the number `set`. The sets found before are forgotten, and their memory is used
+    /// again.
     pub(crate) fn begin(&mut self, set: u32) -> Result<(), OutOfMemory>
         ensures { OnOk result (found_of self.new ≡ root_of set) }
     {
@@ -53,7 +62,8 @@ impl RestSearch {
         Ok(())
     }
 
-    /// Appends a set unless it has been found already.
+    /// Appends the set with the number `set` unless it has been found already. It is the image, on `letter`, of the set at the
+    /// place `parent`.
     fn add(&mut self, set: u32, parent: usize, letter: u32) -> Result<(), OutOfMemory>
         ensures { OnOk result (IsAdded set (record { parent = parent; letter = letter }) (found_of self.old) (found_of self.new)) }
     {
@@ -65,13 +75,18 @@ impl RestSearch {
 }
 
 impl SetWalk {
-    /// Returns a rest that no member of a set accepts, or `None` if there is none.
+    /// Returns a rest that the set with the number `set` refuses, or `None` if it refuses none. A rest is a list of letters
+    /// followed by the end letter, and a set refuses it if none of its members accepts it. A set with the accepting state
+    /// refuses none, since this state accepts every rest. The walk must have been made for the automaton `a` and have a set
+    /// with this number.
     ///
-    /// The search is a breadth-first search over images. Its findings about sets are kept, so no set is searched twice.
+    /// The search is a breadth-first search over images, which are appended to the walk if they are new, even if the search
+    /// fails. What it finds out about sets is kept for later searches.
     ///
     /// # Errors
-    /// [`SetsError::Sets`] if the sets of the walk, together with all sets that can be reached from the set by images, exceed
-    /// the limit of the walk; [`SetsError::OutOfMemory`] if there is not enough memory for the search or the rest.
+    /// [`SetsError::Sets`] if an image is new and the walk already has as many sets as its limit allows, which happens only if
+    /// the sets of the walk, together with all sets that can be reached from the set by images, exceed the limit;
+    /// [`SetsError::OutOfMemory`] if there is not enough memory for the search or the rest.
     pub fn refused_rest(&mut self, a: &Prio, set: u32) -> Result<Option<Word>, SetsError>
         requires made { IsMadeFor self.old a.now }
         requires set_in { set < length self.old.sets }
@@ -92,7 +107,8 @@ impl SetWalk {
         }
     }
 
-    /// Returns the number of a route for a set, or `None` if the set refuses no rest.
+    /// Returns a route for the set with the number `set`, or `None` if the set refuses no rest. Searches only if neither is
+    /// known.
     fn route_from(&mut self, a: &Prio, set: u32) -> Result<Option<usize>, SetsError>
         requires made { IsMadeFor self.old a.now }
         requires set_in { set < length self.old.sets }
@@ -113,7 +129,8 @@ impl SetWalk {
         }
     }
 
-    /// Searches the sets that can be reached from a set by images, and returns a route for the set if there is one.
+    /// Searches the sets that can be reached by images from the set with the number `set`, which must not have the accepting
+    /// state. Returns a route for this set, or `None` if it refuses no rest.
     fn search(&mut self, a: &Prio, set: u32) -> Result<Option<usize>, SetsError>
         requires made { IsMadeFor self.old a.now }
         requires set_in { set < length self.old.sets }
@@ -131,7 +148,8 @@ impl SetWalk {
         Ok(route)
     }
 
-    /// Continues a search that has found only its first set.
+    /// Carries out a search that has found only its first set, with the number `set`, which must not have the accepting state.
+    /// Returns a route for this set, or `None` if it refuses no rest.
     fn seek(
         &mut self,
         a: &Prio,
@@ -149,6 +167,7 @@ impl SetWalk {
         ensures grown { IsGrown a.now (set_at self.old set) self.old.sets self.new.sets }
         ensures full { IfErr result (λ e. e ≡ Sets → IsOver a.now (set_at self.old set) self.old.sets self.old.limit) }
     {
+        // Reading the number of states tells the prover that the automaton is well formed.
         let _states = a.states();
         let mut place = 0;
         while place < search.numbers.len() {
@@ -162,7 +181,9 @@ impl SetWalk {
         Ok(None)
     }
 
-    /// Looks at the images of the set at `place`. Returns a route for this set if one of the images shows that there is one.
+    /// Looks at the images of the set at `place`, first the one on the end letter, until one of them shows a route for the
+    /// set. Returns this route, or `None` if there is none yet; the images that may refuse a rest are then among the sets
+    /// found.
     fn expand(
         &mut self,
         a: &Prio,
@@ -184,6 +205,7 @@ impl SetWalk {
         let end = a.letters().count();
         let after = self.step_from(a, search, place, end)?;
         if !self.holds(after, a.accepting()) {
+            // The route with the number 0 is `End`.
             return Ok(Some(0));
         }
         for letter in 0..end {
@@ -195,7 +217,8 @@ impl SetWalk {
         Ok(None)
     }
 
-    /// Looks at the image on `letter` of the set at `place`. Returns a route for this set if a route for the image is known.
+    /// Looks at the image on `letter` of the set at `place`. If a route for the image is known, returns a route for the set.
+    /// Otherwise returns `None`, and appends the image to the sets found if it may refuse a rest.
     fn visit(
         &mut self,
         a: &Prio,
@@ -233,7 +256,7 @@ impl SetWalk {
         }
     }
 
-    /// Returns the number of the image on `letter` of the set at `place`.
+    /// Returns the number in the walk of the image on `letter`, or on the end letter, of the set at `place`.
     fn step_from(
         &mut self,
         a: &Prio,
@@ -283,8 +306,8 @@ impl SetWalk {
         Ok(route)
     }
 
-    /// Records a route for the set at `at`, and appends a route for its parent, whose image it is. Returns the number of the
-    /// new route.
+    /// Records `route` for the set at the place `at`, and appends a route for its parent, the set whose image it is. Returns
+    /// the appended route. The set isn't the first one, which has no parent.
     fn trace_back(
         &mut self,
         a: &Prio,
@@ -302,6 +325,7 @@ impl SetWalk {
         ensures sets { self.new.sets ≡ self.old.sets }
         ensures route { IfOk result (HasRoute a.now self.new.kept.routes (found_set self.old (found_of search.now) (way_at (found_of search.now) at).parent)) }
     {
+        // Reading the number of states tells the prover that the automaton is well formed.
         let _states = a.states();
         self.note_route(search, at, route)?;
         let way = search.ways[at];
@@ -309,7 +333,7 @@ impl SetWalk {
         Ok(number)
     }
 
-    /// Records a route for the set at `at`.
+    /// Records for the set at the place `at` that it refuses the rest that `route` describes.
     fn note_route(
         &mut self,
         search: &RestSearch,
@@ -326,7 +350,8 @@ impl SetWalk {
         self.note(search.numbers[at], Life::Live(route))
     }
 
-    /// Records that the sets found refuse no rest.
+    /// Records for each set that the search has found that it refuses no rest. The search must have looked at all of them and
+    /// found no route.
     fn bury(&mut self, a: &Prio, search: &RestSearch) -> Result<(), OutOfMemory>
         requires made { IsMadeFor self.old a.now }
         requires search { IsSearch a.now self.old (found_of search.now) }
@@ -335,6 +360,7 @@ impl SetWalk {
         ensures limit { self.new.limit ≡ self.old.limit }
         ensures sets { self.new.sets ≡ self.old.sets }
     {
+        // Reading the number of states tells the prover that the automaton is well formed.
         let _states = a.states();
         for i in 0..search.numbers.len() {
             self.note(search.numbers[i], Life::Dead)?;

@@ -1,4 +1,4 @@
-//! Rows of bits for sets of states.
+//! Rows of bits for sets of states: the bit with the index `q` says whether the state `q` is a member.
 
 ghost use Rattle.std.specs.Prelude.{◌≡◌, ◌-◌, ◌<◌, ◌≤◌, ◌^◌, All, [], length, slice_index_or, slice_set, IsTrue, IfOk};
 ghost use Rattle.rl_prio.specs.Automaton.{letters_count};
@@ -10,7 +10,7 @@ use rl_lists::{Items, Members, OutOfMemory};
 use rl_prio::Prio;
 use std::alloc::Global;
 
-/// Sets the bits of the given states.
+/// Sets the bits of the given states in a row, which must have a bit for each of them. The other bits stay as they are.
 pub(crate) fn mark(row: &mut BitRow, states: &[u32])
     requires { All (λ q. q < length row.old) states.now }
     ensures marked { row.new ≡ marked row.old states.now }
@@ -21,13 +21,15 @@ pub(crate) fn mark(row: &mut BitRow, states: &[u32])
     }
 }
 
-/// Sets the bits of the states to which the members of a set move on a letter.
+/// Sets in `row` the bits of the states to which some member of a set moves on a letter or the end letter. The other bits stay
+/// as they are. The set is given by its row.
 pub(crate) fn mark_moves(row: &mut BitRow, a: &Prio, set: &BitRow, letter: u32)
     requires letter_in { letter ≤ letters_count a.now }
     requires set_in { length set.now ≡ a.now.states }
     requires wide { length row.old ≡ a.now.states }
     ensures { row.new ≡ marked row.old (targets_of a.now (members_of set.now) letter) }
 {
+    // Reading the number of states tells the prover that it fits in 32 bits.
     let _states = a.states();
     let mut from = 0;
     while let Some(state) = set.next_from(from) {
@@ -36,13 +38,15 @@ pub(crate) fn mark_moves(row: &mut BitRow, a: &Prio, set: &BitRow, letter: u32)
     }
 }
 
-/// Whether each member of a set has the same moves on a letter as on the letter before it.
+/// Returns whether each member of a set has the same moves, in the same order, on `letter` as on the letter before it. The set
+/// is given by its row; `letter` is at least 1 and may be the end letter.
 pub(crate) fn move_alike(a: &Prio, set: &BitRow, letter: u32) -> bool
     requires letter_in { letter ≤ letters_count a.now }
     requires later { 0 < letter }
     requires set_in { length set.now ≡ a.now.states }
     ensures { IsTrue result → MoveAlike a.now set.now (length set.now) (letter - 1) letter }
 {
+    // Reading the number of states tells the prover that it fits in 32 bits.
     let _states = a.states();
     let mut from = 0;
     while let Some(state) = set.next_from(from) {
@@ -54,7 +58,7 @@ pub(crate) fn move_alike(a: &Prio, set: &BitRow, letter: u32) -> bool
     true
 }
 
-/// Sets the bits of the given states in one row of a table.
+/// Sets the bits of the given states in the row with the index `at` of a table. The row must have a bit for each of them.
 pub(crate) fn mark_row(table: &mut BitTable, at: usize, states: &[u32])
     requires row_in { at < length table.old }
     requires states_in { All (λ q. q < length (slice_index_or table.old at [])) states.now }

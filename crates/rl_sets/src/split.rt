@@ -1,4 +1,9 @@
 //! The moves of an automaton, split into where they lead and on which letters.
+//!
+//! Each state has a row of targets: the states to which it moves on any letter. Each letter has a row of barred states: those
+//! to which no state moves on it. The end letter counts as a letter here. A state is split if on each letter it moves exactly
+//! to its targets without the letter's barred states; the other states are unsplit. Moves to the dead state aren't looked at,
+//! since no set holds it.
 
 ghost use Rattle.std.specs.Prelude.{◌≡◌, suc, ◌<◌, ◌≤◌, [], All, false, length, replicate, slice_index_or, IsTrue, IfOk};
 ghost use Rattle.rl_lanes.specs.Rows.{list_and_not};
@@ -13,31 +18,32 @@ use rl_lists::OutOfMemory;
 use rl_prio::Prio;
 use std::alloc::Global;
 
-/// The moves of an automaton, split into two parts: for each state the states to which it moves on any letter, and for each
-/// letter the states to which no state moves on it.
+/// The split moves of an automaton: the targets of each state, the barred states of each letter, and the unsplit states.
 ///
-/// An automaton of a tree enters a state on the same letters from everywhere, unless guards forbid it. So the moves of most
-/// states on a letter are the first part without the second. A state for which this is wrong is called unsplit.
+/// In the automaton of a regular expression, each state is entered on the same letters from everywhere, unless anchors or word
+/// boundaries forbid it. So most states are split.
 #[derive(Drop)]
 pub struct SplitMoves {
-    /// The targets of each state on all letters.
+    /// The row of targets of each state.
     targets: BitTable,
-    /// The states that are no targets, letter by letter. The end letter is the last one.
+    /// The row of barred states of each letter, in the order of the letters, and last the row of the end letter.
     barred: Vec<BitRow>,
     /// The unsplit states.
     unsplit: BitRow,
 }
 
-/// The moves of the members of a set: the targets of the split members on all letters, and the unsplit members.
+/// The moves of the members of a set, on all letters at once.
 #[derive(Drop)]
 pub struct SetMoves {
     /// The number of the set.
     pub(crate) set: u32,
+    /// The union of the targets of the split members.
     targets: BitRow,
+    /// The unsplit members.
     unsplit: BitRow,
 }
 
-/// Returns a row whose bits are all set.
+/// Returns a row of `len` bits that are all set.
 fn full_row(alloc: Global, len: usize) -> Result<BitRow, OutOfMemory>
     ensures { IfOk result (λ row. length row ≡ len) }
 {
@@ -48,7 +54,8 @@ fn full_row(alloc: Global, len: usize) -> Result<BitRow, OutOfMemory>
     Ok(row)
 }
 
-/// Adds the targets of each state on a letter to the table, and returns the row of the states that are no targets.
+/// Adds the states to which each state moves on a letter to this state's row of `targets`. Returns the row of the letter's
+/// barred states.
 fn add_targets(
     alloc: Global,
     a: &Prio,
@@ -72,8 +79,8 @@ fn add_targets(
     Ok(barred)
 }
 
-/// Whether the targets of a state on a letter are its targets on all letters without the states that are barred on the
-/// letter. The dead state isn't looked at.
+/// Returns whether a state moves on a letter exactly to the states that are in its row `targets` and not in the letter's row
+/// `barred`. The dead state isn't looked at.
 fn is_split_on(
     alloc: Global,
     a: &Prio,
@@ -98,12 +105,13 @@ fn is_split_on(
     Ok(own == left)
 }
 
-/// Returns a row of a table with `states` rows, each with as many bits.
+/// Returns a copy of the row with the index `at` of a table that has `states` rows of `states` bits each.
 fn row_at(alloc: Global, table: &BitTable, states: usize, at: u32) -> Result<BitRow, OutOfMemory>
     requires row_in { at < states }
     requires square { IsSquare states table.now }
     ensures { IfOk result (λ row. row ≡ slice_index_or table.now at []) }
 {
+    // A table gives only unions of its rows. The union of a single row is this row.
     let mut alone = BitRow::zeros(alloc, states)?;
     alone.set(at as usize, true);
     let mut row = BitRow::zeros(alloc, states)?;
@@ -111,7 +119,7 @@ fn row_at(alloc: Global, table: &BitTable, states: usize, at: u32) -> Result<Bit
     Ok(row)
 }
 
-/// Whether the moves of a state are its targets on all letters, without those that are barred on a letter.
+/// Returns whether a state is split, given its row of targets and the rows of barred states, with the end letter's row last.
 fn is_split(
     alloc: Global,
     a: &Prio,
@@ -133,7 +141,8 @@ fn is_split(
     Ok(true)
 }
 
-/// Returns the row of the states whose moves aren't split by a table of targets and the rows of the barred states.
+/// Returns the row of the unsplit states, given the rows of targets and the rows of barred states, with the end letter's row
+/// last.
 fn unsplit_states(
     alloc: Global,
     a: &Prio,
@@ -157,7 +166,7 @@ fn unsplit_states(
 }
 
 impl SplitMoves {
-    /// Splits the moves of an automaton. This passes over all its moves twice.
+    /// Returns the split moves of an automaton. This looks at all its moves twice.
     pub(crate) fn of(alloc: Global, a: &Prio) -> Result<SplitMoves, OutOfMemory>
         ensures { IfOk result (IsSplit a.now) }
     {
@@ -170,6 +179,7 @@ impl SplitMoves {
             barred.push(row)?;
         }
         let unsplit = unsplit_states(alloc, a, &targets, barred.as_slice())?;
+        // This only makes images of the table faster.
         targets.find_runs()?;
         Ok(SplitMoves {
             targets,
@@ -178,7 +188,7 @@ impl SplitMoves {
         })
     }
 
-    /// Returns the moves of the members of a set.
+    /// Returns the moves of the members of the set with the number `set`; `members` is the row of this set.
     pub(crate) fn moves_of(&self, set: u32, members: &BitRow) -> Result<SetMoves, OutOfMemory>
         requires { IsShaped (length members.now) self.now }
         ensures set { IfOk result (λ moves. moves.set ≡ set) }
@@ -197,7 +207,8 @@ impl SplitMoves {
         })
     }
 
-    /// Marks in an empty row the targets on a letter of the members of a set.
+    /// Sets in an empty row the bits of the states to which some member of a set moves on a letter or the end letter; `moves`
+    /// are the moves of the set. The dead state's bit has no meaning.
     pub(crate) fn mark(&self, row: &mut BitRow, a: &Prio, moves: &SetMoves, letter: u32)
         requires letter_in { letter ≤ letters_count a.now }
         requires split { IsSplit a.now self.now }

@@ -1,4 +1,7 @@
-//! Walks over sets of states.
+//! Walks over sets of states: growing lists of different sets. The number of a set is its index in the list, from 0. The image
+//! of a set on a letter is the set of the states to which its members move on it, without the dead state, which has no moves.
+//! The end letter, which ends each text, has the number after the last letter. A row has one bit for each state of the
+//! automaton.
 
 ghost use Rattle.std.specs.Prelude.{◌≡◌, ◌≢◌, ℕ, ◌<◌, ◌≤◌, [], ◌∷◌, length, All, slice_index_or, IfOk, IfErr, OnErr, false};
 ghost use Rattle.std.specs.List.{list_any};
@@ -28,26 +31,34 @@ use std::marker::Model;
 const FIRST_SETS: usize = 18;
 
 /// A walk over sets of states of one automaton: as much of its powerset construction as has been asked for. Each set has one
-/// number, which is its place in the walk's list.
+/// number, which is its index in the walk's list, from 0. A set never holds the dead state.
 ///
-/// A row that turns out to represent a known set is kept as a spare, so that looking up a known set allocates no memory. In
-/// the same way, the last search for a refused rest is kept, so that the next search can use its memory. Images are found
-/// from the moves of the members, or, once that has been much work, from the split moves of the automaton and of the sets
-/// that were looked at last.
+/// Images are found from the moves of the members, or, once that has been much work, from the split moves of the automaton and
+/// of the sets that were looked at last.
 #[derive(Drop)]
 pub struct SetWalk {
+    /// The number of the automaton's states.
     states: u32,
+    /// The most sets that the walk may have.
     limit: u32,
+    /// The sets in the order of their numbers, each as a row with one bit for each state.
     rows: IndexSet<BitRow>,
+    /// A row whose memory can be used for the next set, so that looking up a known set allocates no memory.
     spare: Option<BitRow>,
+    /// A search for a refused rest whose memory can be used for the next search.
     idle: Option<RestSearch>,
-    /// The number of members that were passed over to find images before the moves were split.
+    /// The number of members whose moves were looked at to find images before the moves were split.
     work: usize,
+    /// The split moves of the automaton, once they have been made.
     split: Option<SplitMoves>,
-    /// The moves of the sets looked at last, once the moves are split.
+    /// The moves of some of the sets looked at last, once the moves are split.
     recent: Vec<SetMoves>,
+    /// The numbers of images: for each set in turn, one entry for each letter and one for the end letter, which is `None` if
+    /// the image isn't known. The list may end early.
     images: Vec<Option<u32>>,
+    /// The routes of refused rests.
     routes: Vec<Route>,
+    /// What is known of the rests that each set refuses, by the set's number. The list may end early.
     lives: Vec<Life>,
 }
 
@@ -63,7 +74,7 @@ impl Model for SetWalk {
     ghost invariant = { λ w. AreFields w.states w.limit w.rows.keys w.split w.recent.items };
 }
 
-/// Returns a list with only the route of the end letter, with room for more routes.
+/// Returns a list with only the route `End`, and with room for more routes.
 fn first_routes(alloc: Global) -> Result<Vec<Route>, OutOfMemory>
     ensures { IfOk result (λ routes. routes.items ≡ End ∷ []) }
 {
@@ -73,7 +84,8 @@ fn first_routes(alloc: Global) -> Result<Vec<Route>, OutOfMemory>
 }
 
 impl SetWalk {
-    /// Creates a walk without sets, which may have up to `limit` of them.
+    /// Returns a walk over sets of states of the automaton `a`. It has no sets yet and may have up to `limit` of them, which
+    /// must be from 1 to 60000.
     ///
     /// # Errors
     /// [`OutOfMemory`] if there is not enough memory for it.
@@ -104,7 +116,7 @@ impl SetWalk {
         })
     }
 
-    /// Returns the number of sets.
+    /// Returns how many sets the walk has so far, which is at most its limit.
     pub fn len(&self) -> u32
         ensures len { result ≡ length self.now.sets }
         ensures few { length self.now.sets ≤ self.now.limit }
@@ -112,7 +124,8 @@ impl SetWalk {
         self.rows.len() as u32
     }
 
-    /// Whether a state is a member of the set with the given number.
+    /// Returns whether `state` is a member of the set with the number `set`. The walk must have a set with this number, and
+    /// the automaton must have the state.
     pub fn holds(&self, set: u32, state: u32) -> bool
         requires set_in { set < length self.now.sets }
         requires state_in { state < self.now.kept.states }
@@ -121,7 +134,8 @@ impl SetWalk {
         self.rows[set as usize].get(state as usize)
     }
 
-    /// Whether some member of the set with the given number is one of the states whose bits are set in a row.
+    /// Returns whether at least one member of the set with the number `set` has its bit set in the row `states`. The walk must
+    /// have a set with this number, and the row must have one bit for each state of the automaton.
     pub fn meets(&self, set: u32, states: &BitRow) -> bool
         requires set_in { set < length self.now.sets }
         requires wide { length states.now ≡ self.now.kept.states }
@@ -130,7 +144,9 @@ impl SetWalk {
         self.rows[set as usize].meets(states)
     }
 
-    /// Returns the number of the set of the listed states, which is appended if it is new.
+    /// Returns the number of the set of the listed states, which is appended if it is new. The states may be in any order and
+    /// listed more than once; they must be states of `a` other than the dead state. The walk must have been made for the
+    /// automaton `a`.
     ///
     /// # Errors
     /// [`SetsError::Sets`] if the set is new and the walk already has as many sets as its limit allows;
@@ -151,7 +167,9 @@ impl SetWalk {
         self.add(row)
     }
 
-    /// Returns the number of the image of a set on a letter. The image is appended if it is new. The end letter is the number
+    /// Returns the number of the image of the set with the number `set` on `letter`: the set of the states to which its
+    /// members move on it, without the dead state. The image is appended if it is new. The walk must have been made for the
+    /// automaton `a` and have a set with this number; `letter` must be a letter of `a` or the end letter, which has the number
     /// after the last letter.
     ///
     /// # Errors
@@ -175,8 +193,9 @@ impl SetWalk {
         self.find_image(a, set, letter)
     }
 
-    /// Returns the number of the set with one more member, which is appended if it is new. The dead state is never a member,
-    /// so adding it gives the same set.
+    /// Returns the number of the set that has the members of the set with the number `set` and the state `state`. For the dead
+    /// state, which is never a member, and for a state that already is one, the number is `set`. Otherwise the new set is
+    /// appended unless the walk has it. The walk must have a set with the number `set`, and the automaton must have the state.
     ///
     /// # Errors
     /// [`SetsError::Sets`] if the set is new and the walk already has as many sets as its limit allows;
@@ -192,6 +211,7 @@ impl SetWalk {
         ensures full { (a : Automaton) → IsMadeFor self.old a → IfErr result (λ e. e ≡ Sets → IsFull self.old.sets self.old.limit (joined a state (set_at self.old set))) }
         ensures unchanged { OnErr result (self.new.sets ≡ self.old.sets) }
     {
+        // The last state is the dead state.
         if state == self.states - 1 {
             return Ok(set);
         }
@@ -203,7 +223,9 @@ impl SetWalk {
         self.add(row)
     }
 
-    /// Returns the number of the set without the states whose bits are set in a row. This set is appended if it is new.
+    /// Returns the number of the set that has the members of the set with the number `set` except those whose bits are set in
+    /// the row `states`. This set is appended if it is new. The walk must have a set with the number `set`, and the row must
+    /// have one bit for each state of the automaton.
     ///
     /// # Errors
     /// [`SetsError::Sets`] if the set is new and the walk already has as many sets as its limit allows;
@@ -224,7 +246,7 @@ impl SetWalk {
         self.add(row)
     }
 
-    /// Returns the members of the set with the given number, in increasing order.
+    /// Returns the members of the set with the number `set`, in increasing order. The walk must have a set with this number.
     ///
     /// # Errors
     /// [`OutOfMemory`] if there is not enough memory for the list.
@@ -232,7 +254,7 @@ impl SetWalk {
         requires { set < length self.now.sets }
         ensures { IfOk result (λ m. m ≡ set_at self.now set) }
     {
-        // A row has one bit for each state. The number of states is read here so that it is known to fit.
+        // Reading the number of states tells the prover that the length of a row fits in 32 bits.
         let _states = self.states;
         members(self.allocator(), &self.rows[set as usize])
     }
@@ -242,7 +264,8 @@ impl SetWalk {
         *self.images.allocator()
     }
 
-    /// Returns a row with `states` bits of any values: the spare row if it has the right length, or a new one.
+    /// Returns a row with `states` bits of any values: the spare row, if there is one of this length, or a new one. The spare
+    /// row is no longer kept.
     fn take_row(&mut self, states: usize) -> Result<BitRow, OutOfMemory>
         ensures len { IfOk result (λ row. length row ≡ states) }
         ensures same { self.new ≡ self.old }
@@ -253,7 +276,7 @@ impl SetWalk {
         }
     }
 
-    /// Returns a copy of the row of a set.
+    /// Returns a copy of the row of the set with the number `set`.
     fn row_of(&mut self, set: u32) -> Result<BitRow, OutOfMemory>
         requires { set < length self.old.sets }
         ensures members { IfOk result (λ row. members_of row ≡ set_at self.old set) }
@@ -267,7 +290,8 @@ impl SetWalk {
         Ok(row)
     }
 
-    /// Returns the number of the set that a row represents, which is appended if it is new.
+    /// Returns the number of the set that a row represents. The set is appended if it is new; otherwise the row is kept as the
+    /// spare one. Fails with [`SetsError::Sets`] if the set is new and the walk is full.
     fn add(&mut self, row: BitRow) -> Result<u32, SetsError>
         requires { length row ≡ self.old.kept.states }
         ensures listed { IfOk result (IsListed self.old.sets self.new.sets (members_of row)) }

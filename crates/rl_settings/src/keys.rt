@@ -71,7 +71,7 @@ fn number_at(table: &Table, key: &str, range: NumberRange) -> Option<Option<u32>
     }
 }
 
-/// Returns the settings that a table gives, or `None` if a key or a value is refused.
+/// Returns the settings that the table gives, or `None` if it has a key that isn't known or a value that its key doesn't take.
 pub(crate) fn table_values(table: &Table) -> Option<PartialSettings>
     ensures value { result ≡ table_values (table_view table.now) }
     ensures ranges { IfSome result AreInRange }

@@ -22,11 +22,11 @@ fn document_of(alloc: Global, bytes: &[u8]) -> Result<Table, SettingsError>
     }
 }
 
-/// Reads the settings from the bytes of a settings file.
+/// Returns the settings that the bytes of a settings file give. A setting whose key the file lacks is `None`.
 ///
 /// # Errors
-/// - [`SettingsError::Refused`] if and only if the bytes aren't a TOML document, a key isn't one of the five known ones, or
-///   a key doesn't take its value.
+/// - [`SettingsError::Refused`] only if the bytes aren't a TOML document, a key isn't one of the five known ones, or a key
+///   doesn't take its value. In these cases there is never a result.
 /// - [`SettingsError::OutOfMemory`] if there is not enough memory.
 #[tactic(auto, unfolding(crate::specs::Settings::file_values))]
 pub fn read_settings(alloc: Global, bytes: &[u8]) -> Result<PartialSettings, SettingsError>

@@ -19,7 +19,7 @@ use Rattle.rl_sites.specs.declared.imports.Alias.{Alias}
 use Rattle.rl_sites.specs.declared.significant.SignificantToken.{SignificantToken}
 use Rattle.rl_sites.specs.declared.site.Site.{Site}
 use Rattle.rl_sites.specs.declared.site.SiteFlags.{SiteFlags}
-use Rattle.rl_sites.specs.Significant.{significant_from, is_literal, is_name, is_op, is_word, word_of, stands}
+use Rattle.rl_sites.specs.Significant.{significant_from, is_literal, is_name, is_op, is_word, word_of, is_at}
 use Rattle.rl_sites.specs.Names.{names_any_module, is_module, call_named, call_aliased}
 use Rattle.rl_sites.specs.internal.Meanings.{first_call}
 use Rattle.rl_sites.specs.Sites.{dotted_head, bare_head, head_of, pattern_size, site_of_run, ends_whole, site_behind, site_here, hides, sites_from}
@@ -164,9 +164,9 @@ no_call s al m e = chosen (is_name m) (first_call s al (word_of s m)) e
 no_dotted : (s : List ℕ) (al : List Alias) (m : SignificantToken) (ms : List SignificantToken) → is_name m ≡ false → dotted_head s al (m ∷ ms) ≡ None
 unfolding dotted_head
 no_dotted s al m ms e =
-    chosen (stands 1 (is_op s (codes ".")) (m ∷ ms) && stands 3 (is_op s (codes "(")) (m ∷ ms) && is_module s al m)
+    chosen (is_at 1 (is_op s (codes ".")) (m ∷ ms) && is_at 3 (is_op s (codes "(")) (m ∷ ms) && is_module s al m)
     (head 4 (call_by (call_named s) (slice_get (m ∷ ms) 2)))
-    (and_right (stands 1 (is_op s (codes ".")) (m ∷ ms) && stands 3 (is_op s (codes "(")) (m ∷ ms)) (is_module s al m) (no_module s al m e))
+    (and_right (is_at 1 (is_op s (codes ".")) (m ∷ ms) && is_at 3 (is_op s (codes "(")) (m ∷ ms)) (is_module s al m) (no_module s al m e))
 
 either : {A : Type 0} (b : Bool) (x : Option A) → x ≡ None → cond b x None ≡ None
 either true x e = e
@@ -175,7 +175,7 @@ either false x e = refl
 no_bare : (s : List ℕ) (al : List Alias) (m : SignificantToken) (ms : List SignificantToken) → is_name m ≡ false → bare_head s al (m ∷ ms) ≡ None
 unfolding bare_head
 no_bare s al m ms e =
-    either (stands 1 (is_op s (codes "(")) (m ∷ ms)) (head 2 (call_aliased s al m)) (ap (head 2) (no_call s al m e))
+    either (is_at 1 (is_op s (codes "(")) (m ∷ ms)) (head 2 (call_aliased s al m)) (ap (head 2) (no_call s al m e))
 
 -- A site begins at a name.
 no_name : (s : List ℕ) (al : List Alias) (m : SignificantToken) (ms : List SignificantToken) → is_name m ≡ false → site_here s al (m ∷ ms) ≡ None
@@ -185,10 +185,10 @@ no_name s al m ms e = no_head s al (m ∷ ms) (no_dotted s al m ms e) (no_bare s
 no_such_dotted : (s : List ℕ) (al : List Alias) (m e : SignificantToken) (ms : List SignificantToken) → is_op s (codes ".") e ≡ false → dotted_head s al (m ∷ e ∷ ms) ≡ None
 unfolding dotted_head
 no_such_dotted s al m e ms d =
-    chosen (is_op s (codes ".") e && stands 3 (is_op s (codes "(")) (m ∷ e ∷ ms) && is_module s al m)
+    chosen (is_op s (codes ".") e && is_at 3 (is_op s (codes "(")) (m ∷ e ∷ ms) && is_module s al m)
     (head 4 (call_by (call_named s) (slice_get (m ∷ e ∷ ms) 2)))
-    (and_left (is_op s (codes ".") e && stands 3 (is_op s (codes "(")) (m ∷ e ∷ ms)) (is_module s al m)
-    (and_left (is_op s (codes ".") e) (stands 3 (is_op s (codes "(")) (m ∷ e ∷ ms)) d))
+    (and_left (is_op s (codes ".") e && is_at 3 (is_op s (codes "(")) (m ∷ e ∷ ms)) (is_module s al m)
+    (and_left (is_op s (codes ".") e) (is_at 3 (is_op s (codes "(")) (m ∷ e ∷ ms)) d))
 
 no_such_bare : (s : List ℕ) (al : List Alias) (m e : SignificantToken) (ms : List SignificantToken) → is_op s (codes "(") e ≡ false → bare_head s al (m ∷ e ∷ ms) ≡ None
 unfolding bare_head
@@ -238,7 +238,7 @@ quiet_literals s al hidden (suc k) [] h = tt
 quiet_literals s al hidden (suc k) (m ∷ ms) h =
     (silent hidden (site_here s al (m ∷ ms)) (no_name s al m ms (literal_no_name m.inner.kind h.0)), quiet_literals s al (hides s m) k ms h.1)
 
-quiet_assigned : (s : List ℕ) (al : List Alias) (hidden : Bool) (ms : List SignificantToken) → stands 1 (is_op s (codes "=")) ms ≡ true → Quiet s al hidden 2 ms
+quiet_assigned : (s : List ℕ) (al : List Alias) (hidden : Bool) (ms : List SignificantToken) → is_at 1 (is_op s (codes "=")) ms ≡ true → Quiet s al hidden 2 ms
 quiet_assigned s al hidden [] h = tt
 quiet_assigned s al hidden (m ∷ []) h = absurd (false≢true h)
 quiet_assigned s al hidden (m ∷ e ∷ ms) h = (
@@ -249,15 +249,15 @@ quiet_assigned s al hidden (m ∷ e ∷ ms) h = (
 
 quiet_pattern : (s : List ℕ) (al : List Alias) (hidden : Bool) (ms : List SignificantToken) → Quiet s al hidden (pattern_size s ms) ms
 quiet_pattern s al hidden ms =
-    by-test (stands 0 (is_word s (codes "pattern")) ms && stands 1 (is_op s (codes "=")) ms) refl
+    by-test (is_at 0 (is_word s (codes "pattern")) ms && is_at 1 (is_op s (codes "=")) ms) refl
   where
-    by-test : (b : Bool) → (stands 0 (is_word s (codes "pattern")) ms && stands 1 (is_op s (codes "=")) ms) ≡ b → Quiet s al hidden (cond b 2 0) ms
+    by-test : (b : Bool) → (is_at 0 (is_word s (codes "pattern")) ms && is_at 1 (is_op s (codes "=")) ms) ≡ b → Quiet s al hidden (cond b 2 0) ms
     by-test true e =
-        quiet_assigned s al hidden ms (and_parts (stands 0 (is_word s (codes "pattern")) ms) (stands 1 (is_op s (codes "=")) ms) e).1
+        quiet_assigned s al hidden ms (and_parts (is_at 0 (is_word s (codes "pattern")) ms) (is_at 1 (is_op s (codes "=")) ms) e).1
     by-test false e = tt
 
 -- `.`, a token and `(` after the name of the module.
-quiet_dotted : (s : List ℕ) (al : List Alias) (hidden : Bool) (ms : List SignificantToken) → stands 0 (is_op s (codes ".")) ms ≡ true → stands 2 (is_op s (codes "(")) ms ≡ true
+quiet_dotted : (s : List ℕ) (al : List Alias) (hidden : Bool) (ms : List SignificantToken) → is_at 0 (is_op s (codes ".")) ms ≡ true → is_at 2 (is_op s (codes "(")) ms ≡ true
     → Quiet s al hidden 3 ms
 quiet_dotted s al hidden [] d p = tt
 quiet_dotted s al hidden (m ∷ []) d p = absurd (false≢true p)
@@ -271,7 +271,7 @@ quiet_dotted s al hidden (m ∷ x ∷ b ∷ ms) d p = (
 )
 
 -- `(` after the name of a function.
-quiet_bare : (s : List ℕ) (al : List Alias) (hidden : Bool) (ms : List SignificantToken) → stands 0 (is_op s (codes "(")) ms ≡ true → Quiet s al hidden 1 ms
+quiet_bare : (s : List ℕ) (al : List Alias) (hidden : Bool) (ms : List SignificantToken) → is_at 0 (is_op s (codes "(")) ms ≡ true → Quiet s al hidden 1 ms
 quiet_bare s al hidden [] p = tt
 quiet_bare s al hidden (m ∷ ms) p = (silent hidden (site_here s al (m ∷ ms)) (no_op s al (codes "(") m ms p), tt)
 
@@ -294,8 +294,8 @@ IsQuietHead s al found m ms = (k : ℕ) × (found.size ≡ suc k) × Quiet s al 
 dotted_quiet : (s : List ℕ) (al : List Alias) (found : Head) (m : SignificantToken) (ms : List SignificantToken) → dotted_head s al (m ∷ ms) ≡ Some found → IsQuietHead s al found m ms
 unfolding dotted_head
 dotted_quiet s al found m ms e =
-    let dot = stands 0 (is_op s (codes ".")) ms in
-    let bracket = stands 2 (is_op s (codes "(")) ms in
+    let dot = is_at 0 (is_op s (codes ".")) ms in
+    let bracket = is_at 2 (is_op s (codes "(")) ms in
     let t = head_tested (dot && bracket && is_module s al m) 4 (call_by (call_named s) (slice_get (m ∷ ms) 2)) found e in
     let both = and_parts dot bracket (and_parts (dot && bracket) (is_module s al m) t.0).0 in
     (3, t.1, quiet_dotted s al (hides s m) ms both.0 both.1)
@@ -303,7 +303,7 @@ dotted_quiet s al found m ms e =
 bare_quiet : (s : List ℕ) (al : List Alias) (found : Head) (m : SignificantToken) (ms : List SignificantToken) → bare_head s al (m ∷ ms) ≡ Some found → IsQuietHead s al found m ms
 unfolding bare_head
 bare_quiet s al found m ms e =
-    let t = head_tested (stands 0 (is_op s (codes "(")) ms) 2 (call_by (call_aliased s al) (slice_get (m ∷ ms) 0)) found e in
+    let t = head_tested (is_at 0 (is_op s (codes "(")) ms) 2 (call_by (call_aliased s al) (slice_get (m ∷ ms) 0)) found e in
     (1, t.1, quiet_bare s al (hides s m) ms t.0)
 
 head_quiet : (s : List ℕ) (al : List Alias) (found : Head) (m : SignificantToken) (ms : List SignificantToken) → head_of s al (m ∷ ms) ≡ Some found → IsQuietHead s al found m ms

@@ -5,7 +5,7 @@ use Rattle.rl_sites.specs.declared.significant.SignificantToken.{SignificantToke
 use Rattle.rl_sites.specs.declared.imports.Alias.{Alias}
 use Rattle.rl_sites.specs.declared.heads.Head.{Head}
 use Rattle.rl_sites.specs.declared.site.Site.{Site}
-use Rattle.rl_sites.specs.Significant.{is_name, is_op, stands}
+use Rattle.rl_sites.specs.Significant.{is_name, is_op, is_at}
 use Rattle.rl_sites.specs.Names.{names_any_module, names_any_member, is_module, call_named, call_aliased}
 use Rattle.rl_sites.specs.internal.Meanings.{first_call}
 use Rattle.rl_sites.specs.Sites.{dotted_head, bare_head, head_of, site_here, sites_from, hides}
@@ -31,7 +31,7 @@ no_call : (s : List ℕ) (m : SignificantToken) → call_aliased s [] m ≡ None
 unfolding call_aliased first_call names_any_member
 no_call s m = either (is_name m) None refl
 
-no_front : (s : List ℕ) (ms : List SignificantToken) → stands 0 (is_module s []) ms ≡ false
+no_front : (s : List ℕ) (ms : List SignificantToken) → is_at 0 (is_module s []) ms ≡ false
 no_front s [] = refl
 no_front s (m ∷ ms) = no_module s m
 
@@ -42,9 +42,9 @@ chosen false x e = refl
 no_dotted : (s : List ℕ) (ms : List SignificantToken) → dotted_head s [] ms ≡ None
 unfolding dotted_head
 no_dotted s ms =
-    chosen (stands 1 (is_op s (codes ".")) ms && stands 3 (is_op s (codes "(")) ms && stands 0 (is_module s []) ms)
+    chosen (is_at 1 (is_op s (codes ".")) ms && is_at 3 (is_op s (codes "(")) ms && is_at 0 (is_module s []) ms)
     (head 4 (call_by (call_named s) (slice_get ms 2)))
-    (never_behind (stands 1 (is_op s (codes ".")) ms && stands 3 (is_op s (codes "(")) ms) (stands 0 (is_module s []) ms) (no_front s ms))
+    (never_behind (is_at 1 (is_op s (codes ".")) ms && is_at 3 (is_op s (codes "(")) ms) (is_at 0 (is_module s []) ms) (no_front s ms))
 
 no_named : (s : List ℕ) (ms : List SignificantToken) → head 2 (call_by (call_aliased s []) (slice_get ms 0)) ≡ None
 no_named s [] = refl
@@ -52,7 +52,7 @@ no_named s (m ∷ ms) = ap (head 2) (no_call s m)
 
 no_bare : (s : List ℕ) (ms : List SignificantToken) → bare_head s [] ms ≡ None
 unfolding bare_head
-no_bare s ms = either (stands 1 (is_op s (codes "(")) ms) (head 2 (call_by (call_aliased s []) (slice_get ms 0))) (no_named s ms)
+no_bare s ms = either (is_at 1 (is_op s (codes "(")) ms) (head 2 (call_by (call_aliased s []) (slice_get ms 0))) (no_named s ms)
 
 no_head : (s : List ℕ) (ms : List SignificantToken) → head_of s [] ms ≡ None
 unfolding head_of

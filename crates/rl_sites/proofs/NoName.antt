@@ -10,7 +10,7 @@ use Rattle.rl_pylex.specs.Source.{same_kind, text_of, LacksName}
 use Rattle.rl_sites.specs.declared.significant.SignificantToken.{SignificantToken}
 use Rattle.rl_sites.specs.declared.imports.Alias.{Alias}
 use Rattle.rl_sites.specs.declared.imports.Import.TheVariants as import
-use Rattle.rl_sites.specs.Significant.{significant_from, is_name, is_word, is_op, stands}
+use Rattle.rl_sites.specs.Significant.{significant_from, is_name, is_word, is_op, is_at}
 use Rattle.rl_sites.specs.Imports.{ends_statement, item_size, item_alias, items_from, is_from_import, import_here, aliases_from, aliases_of}
 use Rattle.rl_sites.specs.Sites.{sites_of, HasNoSites}
 use Rattle.rl_sites.proofs.NoAliases.{no_sites}
@@ -57,12 +57,12 @@ no_items s zero [] h = refl
 no_items s (suc skip) [] h = refl
 no_items s (suc skip) (m ∷ ms) h = no_items s skip ms (All-tail (IsOther s) m ms h)
 no_items s zero (m ∷ ms) h =
-    no_more (is_name m) (stands (item_size s import.Module ms) (is_op s (codes ",")) ms) (item_alias s import.Module m ms)
+    no_more (is_name m) (is_at (item_size s import.Module ms) (is_op s (codes ",")) ms) (item_alias s import.Module m ms)
     (items_from s import.Module (suc (item_size s import.Module ms)) ms) (no_alias s m ms (All-head (IsOther s) m ms h))
     (no_items s (suc (item_size s import.Module ms)) ms (All-tail (IsOther s) m ms h))
 
 -- The second token isn't `re`.
-not_second : (s : List ℕ) (ms : List SignificantToken) → All (IsOther s) ms → stands 1 (is_word s (codes "re")) ms ≡ false
+not_second : (s : List ℕ) (ms : List SignificantToken) → All (IsOther s) ms → is_at 1 (is_word s (codes "re")) ms ≡ false
 not_second s [] h = refl
 not_second s (m ∷ []) h = refl
 not_second s (m ∷ n ∷ ms) h = All-head (IsOther s) n ms (All-tail (IsOther s) m (n ∷ ms) h)
@@ -74,7 +74,7 @@ never_between false b c e = refl
 no_members : (s : List ℕ) (ms : List SignificantToken) → All (IsOther s) ms → is_from_import s ms ≡ false
 unfolding is_from_import
 no_members s ms h =
-    never_between (stands 0 (is_word s (codes "from")) ms) (stands 1 (is_word s (codes "re")) ms) (stands 2 (is_word s (codes "import")) ms)
+    never_between (is_at 0 (is_word s (codes "from")) ms) (is_at 1 (is_word s (codes "re")) ms) (is_at 2 (is_word s (codes "import")) ms)
     (not_second s ms h)
 
 neither : (a b : Bool) (x y : List Alias) → x ≡ [] → b ≡ false → cond a x (cond b y []) ≡ []
@@ -84,8 +84,8 @@ neither false b x y e h = rw h refl
 no_import : (s : List ℕ) (ms : List SignificantToken) → All (IsOther s) ms → import_here s ms ≡ []
 unfolding import_here
 no_import s ms h =
-    neither (stands 0 (is_word s (codes "import")) ms) (is_from_import s ms) (items_from s import.Module 0 (drop 1 ms))
-    (items_from s import.Member (cond (stands 3 (is_op s (codes "(")) ms) 1 0) (drop 3 ms)) (no_items s 0 (drop 1 ms) (All-drop (IsOther s) 1 ms h))
+    neither (is_at 0 (is_word s (codes "import")) ms) (is_from_import s ms) (items_from s import.Module 0 (drop 1 ms))
+    (items_from s import.Member (cond (is_at 3 (is_op s (codes "(")) ms) 1 0) (drop 3 ms)) (no_items s 0 (drop 1 ms) (All-drop (IsOther s) 1 ms h))
     (no_members s ms h)
 
 none_first : (b : Bool) (x more : List Alias) → x ≡ [] → more ≡ [] → cond b x [] ++ more ≡ []

@@ -16,7 +16,7 @@ use Rattle.rl_sites.specs.declared.flag.Flag.TheVariants as flag
 use Rattle.rl_sites.specs.declared.meaning.Meaning.{Meaning}
 use Rattle.rl_sites.specs.Significant.{word_of}
 use Rattle.rl_sites.specs.Names.{calls, call_word, flag_names, names_any_module, names_any_member}
-use Rattle.rl_sites.specs.internal.Meanings.{call_of, call_rank, flag_rank, earlier, nothing, joined, own_meaning, meaning_with, meaning_of, meaning_in, IsMeant, flag_of, first_call, first_flag}
+use Rattle.rl_sites.specs.internal.Meanings.{call_of, call_rank, flag_rank, earlier, nothing, joined, own_meaning, meaning_with, meaning_of, meaning_in, IsMeaningTable, flag_of, first_call, first_flag}
 
 -- Whether the alias is one of the module.
 abbrev is_of_module : Option SignificantToken → Bool
@@ -245,13 +245,13 @@ unfolding names_any_module names_any_member first_call first_flag
 meaning_none s name = refl
 
 -- A table without entries.
-pub meant_none : (s : List ℕ) (al : List Alias) (entries : List (Bor (List ℕ) × Meaning)) → entries ≡ [] → IsMeant s (take 0 al) entries
+pub meant_none : (s : List ℕ) (al : List Alias) (entries : List (Bor (List ℕ) × Meaning)) → entries ≡ [] → IsMeaningTable s (take 0 al) entries
 meant_none s al entries h =
     record { each = λ name. ap (λ (es : List (Bor (List ℕ) × Meaning)). meaning_in es name) h ∙ meaning_none s name }
 
 -- One alias is added to the table.
 pub meant_more : (s : List ℕ) (al : List Alias) (i : ℕ) (a d : Alias) (old new : List (Bor (List ℕ) × Meaning)) → i < length al → a ≡ get_or al i d
-    → IsMeant s (take i al) old → ((name : List ℕ) → meaning_in new name ≡ meaning_with s a name (meaning_in old name)) → IsMeant s (take (i + 1) al) new
+    → IsMeaningTable s (take i al) old → ((name : List ℕ) → meaning_in new name ≡ meaning_with s a name (meaning_in old name)) → IsMeaningTable s (take (i + 1) al) new
 meant_more s al i a d old new h e was more = record {
   each = λ name.
       more name

@@ -3,7 +3,7 @@ use Rattle.std.proofs.Common.{◌≡◌, ℕ, zero, suc, ◌+◌, ◌<◌, ◌�
 use Rattle.std.specs.List.{onto_first}
 use Rattle.rl_sites.specs.declared.significant.SignificantToken.{SignificantToken}
 use Rattle.rl_sites.specs.Arguments.{opens, closes, lambda_after, arguments_from, arguments_of}
-use Rattle.rl_sites.specs.internal.Parts.{parts}
+use Rattle.rl_sites.specs.internal.Parts.{separates}
 use Rattle.rl_sites.specs.internal.Walks.{inside_size, argument_size, others_from, IsTable}
 use Rattle.std.proofs.lemmas.List.{length-drop}
 use Rattle.rl_sites.proofs.Tables.{table_drop, three_split}
@@ -48,7 +48,7 @@ arguments-front s (suc d) lambda (m ∷ ms) =
     (argument_size s (suc (suc d)) lambda ms) (argument_size s d lambda ms) (argument_size s (suc d) lambda ms) (λ k. take k ms ∷ others_from s (drop k ms))
     (arguments-front s (suc (suc d)) lambda ms) (arguments-front s d lambda ms) (arguments-front s (suc d) lambda ms))
 arguments-front s zero lambda (m ∷ ms) =
-    outer_cuts s m ms (opens s m) (closes s m) (parts s lambda m) (arguments_from s 1 (lambda_after s lambda m) ms) (arguments_from s 0 (lambda_after s lambda m) ms)
+    outer_cuts s m ms (opens s m) (closes s m) (separates s lambda m) (arguments_from s 1 (lambda_after s lambda m) ms) (arguments_from s 0 (lambda_after s lambda m) ms)
     (argument_size s 1 (lambda_after s lambda m) ms) (argument_size s 0 (lambda_after s lambda m) ms) refl
     (arguments-front s 1 (lambda_after s lambda m) ms) (arguments-front s 0 (lambda_after s lambda m) ms)
 
@@ -74,19 +74,19 @@ goes_case s ms lambda false false false h = omega arith
 
 -- The argument ends before this token.
 pub size_ends : (s : List ℕ) (lambda : Bool) (ms : List SignificantToken) (m d : SignificantToken) → 0 < length ms → m ≡ get_or ms 0 d
-    → (not (opens s m) && (closes s m || parts s lambda m)) ≡ true → argument_size s 0 lambda ms ≡ 0
+    → (not (opens s m) && (closes s m || separates s lambda m)) ≡ true → argument_size s 0 lambda ms ≡ 0
 size_ends s lambda [] m d some e h = absurd (omega arith)
 size_ends s lambda (x ∷ ms) m d some e h =
-    ends_case (opens s x) (closes s x) (parts s lambda x) (suc (argument_size s 1 (lambda_after s lambda x) ms)) (suc (argument_size s 0 (lambda_after s lambda x) ms))
-    (subst (λ (y : SignificantToken). (not (opens s y) && (closes s y || parts s lambda y)) ≡ true) e h)
+    ends_case (opens s x) (closes s x) (separates s lambda x) (suc (argument_size s 1 (lambda_after s lambda x) ms)) (suc (argument_size s 0 (lambda_after s lambda x) ms))
+    (subst (λ (y : SignificantToken). (not (opens s y) && (closes s y || separates s lambda y)) ≡ true) e h)
 
 -- The argument goes on after this token, and after its brackets if it opens any.
 pub size_goes : (s : List ℕ) (lambda : Bool) (ms after next : List SignificantToken) (m d : SignificantToken) (inner : ℕ) → 0 < length ms → m ≡ get_or ms 0 d
-    → (not (opens s m) && (closes s m || parts s lambda m)) ≡ false → after ≡ drop 1 ms → inner ≡ cond (opens s m) (inside_size s 0 after) 0 → next ≡ drop inner after
+    → (not (opens s m) && (closes s m || separates s lambda m)) ≡ false → after ≡ drop 1 ms → inner ≡ cond (opens s m) (inside_size s 0 after) 0 → next ≡ drop inner after
     → argument_size s 0 lambda ms ≡ 1 + inner + argument_size s 0 (lambda_after s lambda m) next
 size_goes s lambda [] after next m d inner some e h a b n = absurd (omega arith)
 size_goes s lambda (x ∷ ms) after next m d inner some e h a b n =
-    let here = goes_case s ms (lambda_after s lambda x) (opens s x) (closes s x) (parts s lambda x) (subst (λ (y : SignificantToken). (not (opens s y) && (closes s y || parts s lambda y)) ≡ false) e h) in
+    let here = goes_case s ms (lambda_after s lambda x) (opens s x) (closes s x) (separates s lambda x) (subst (λ (y : SignificantToken). (not (opens s y) && (closes s y || separates s lambda y)) ≡ false) e h) in
     let size : inner ≡ cond (opens s x) (inside_size s 0 ms) 0 =
     b ∙ ap (λ (y : List SignificantToken). cond (opens s m) (inside_size s 0 y) 0) a ∙ ap (λ (y : SignificantToken). cond (opens s y) (inside_size s 0 ms) 0) e in
     let rest : next ≡ drop (cond (opens s x) (inside_size s 0 ms) 0) ms = n ∙ ap (drop inner) a ∙ ap (λ k. drop k ms) size in

@@ -1,4 +1,6 @@
--- The arguments of a call, read from the tokens after its opening bracket.
+-- The arguments of a call, read from the tokens after its opening bracket. An argument is the list of its tokens. A `,` ends
+-- it, except inside brackets that the argument opens and between a `lambda` and its `:`. A closing bracket closes an opening
+-- one of any kind. The tokens are significant ones, that is, without comments. `source` has the bytes of the source.
 use Rattle.std.specs.Prelude.{ℕ, zero, suc, Bool, false, not, ◌&&◌, ◌||◌, List, [], ◌∷◌, codes, if◌then◌else◌}
 use Rattle.std.specs.List.{onto_first}
 use Rattle.rl_sites.specs.declared.significant.SignificantToken.{SignificantToken}
@@ -12,14 +14,15 @@ opens source token = is_op source (codes "(") token || is_op source (codes "[") 
 unfoldable pub closes : List ℕ → SignificantToken → Bool
 closes source token = is_op source (codes ")") token || is_op source (codes "]") token || is_op source (codes "}") token
 
--- Whether the tokens after this one are between a `lambda` and its `:`. Only tokens outside the brackets of the arguments count.
+-- Whether, after `token`, the argument has a `lambda` whose `:` hasn't come yet, if `in_lambda` says this of the argument
+-- before `token`. Only tokens outside the brackets that the argument opens count.
 unfoldable pub lambda_after : List ℕ → Bool → SignificantToken → Bool
 lambda_after source in_lambda token =
     is_word source (codes "lambda") token || (in_lambda && not (is_op source (codes ":") token))
 
--- The arguments that the tokens begin with, if the first token is inside `depth` brackets opened by the arguments. They end at
--- the bracket that closes the call, or at the end of the source. A closing bracket closes an opening one of any kind, and a `,`
--- between a `lambda` and its `:` doesn't separate arguments.
+-- The rest of an argument, and the arguments after it, up to the bracket that closes the call or to the end of the tokens. The
+-- argument has opened `depth` brackets that aren't closed before these tokens. `in_lambda` says whether it has, outside its
+-- brackets, a `lambda` whose `:` hasn't come yet.
 abbrev pub arguments_from : List ℕ → ℕ → Bool → List SignificantToken → List (List SignificantToken)
 arguments_from source depth in_lambda [] = [] ∷ []
 arguments_from source (suc depth) in_lambda (token ∷ rest) =
@@ -33,6 +36,7 @@ arguments_from source zero in_lambda (token ∷ rest) =
     else (if is_op source (codes ",") token && not in_lambda then [] ∷ arguments_from source 0 false rest
     else onto_first token (arguments_from source 0 (lambda_after source in_lambda token) rest)))
 
--- The arguments of a call, given the tokens after its opening bracket.
+-- The arguments of a call, given the tokens after its opening bracket. There is always at least one: `()` gives one empty
+-- argument, and `(a,)` gives `a` and an empty one.
 abbrev pub arguments_of : List ℕ → List SignificantToken → List (List SignificantToken)
 arguments_of source rest = arguments_from source 0 false rest

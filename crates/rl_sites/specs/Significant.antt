@@ -1,4 +1,5 @@
--- The significant tokens of a source, which are all except comments, with their indexes, and tests on them.
+-- The significant tokens of a source, which are all except comments, with their indexes, and tests on them. A name is a token
+-- of the kind `Name`, so a keyword is one too. `source` has the bytes of the source.
 use Rattle.std.specs.Prelude.{ℕ, ◌+◌, Bool, false, ◌&&◌, List, [], ◌∷◌, slice_get, if◌then◌else◌, bytes_eq}
 use Rattle.std.specs.Option.{option_map_or}
 use Rattle.rl_pylex.specs.declared.token_list.TokenKind.TheVariants as kind
@@ -6,14 +7,15 @@ use Rattle.rl_pylex.specs.declared.token_list.Token.{Token}
 use Rattle.rl_pylex.specs.Source.{text_of, same_kind}
 use Rattle.rl_sites.specs.declared.significant.SignificantToken.{SignificantToken}
 
--- The significant tokens of a list whose first token has the index `number`.
+-- The tokens of a list that aren't comments, in order, each with its index. The first token of the list has the index
+-- `number`.
 abbrev pub significant_from : ℕ → List Token → List SignificantToken
 significant_from number [] = []
 significant_from number (t ∷ ts) =
     if same_kind kind.Comment t.kind then significant_from (number + 1) ts
     else record { number = number; inner = t } ∷ significant_from (number + 1) ts
 
--- The text of a token.
+-- The bytes of the token in the source.
 abbrev pub word_of : List ℕ → SignificantToken → List ℕ
 word_of source token = text_of source token.inner
 
@@ -29,10 +31,10 @@ is_literal token = same_kind kind.Literal token.inner.kind
 unfoldable pub is_word : List ℕ → List ℕ → SignificantToken → Bool
 is_word source word token = is_name token && bytes_eq (word_of source token) word
 
--- Whether the token is an operator or a bracket with this text.
+-- Whether the token is of the kind `Op`, such as an operator character or a bracket, and has this text.
 unfoldable pub is_op : List ℕ → List ℕ → SignificantToken → Bool
 is_op source op token = same_kind kind.Op token.inner.kind && bytes_eq (word_of source token) op
 
--- Whether there is a token at the index `i`, and it satisfies the test.
-abbrev pub stands : ℕ → (SignificantToken → Bool) → List SignificantToken → Bool
-stands i test tokens = option_map_or test (slice_get tokens i) false
+-- Whether there is a token at the index `i` of the list, counted from 0, and it satisfies `test`.
+abbrev pub is_at : ℕ → (SignificantToken → Bool) → List SignificantToken → Bool
+is_at i test tokens = option_map_or test (slice_get tokens i) false

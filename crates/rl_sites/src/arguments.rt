@@ -1,7 +1,8 @@
-//! The arguments of a call, one by one.
+//! The arguments of a call, one by one. The functions get the tokens after the call's opening bracket, or after a `,` that
+//! separates two arguments, and the table of sizes that [`sizes_of`](crate::brackets::sizes_of) returns.
 ghost use Rattle.std.specs.Prelude.{◌≡◌, ◌≤◌, ◌<◌, ◌+◌, ◌∷◌, [], ◌&&◌, ◌||◌, not, true, false, length, take, drop, filter, slice_get, Some, None, MatchOption, IfSome};
 ghost use Rattle.rl_sites.specs.Arguments.{opens, closes, lambda_after, arguments_of};
-ghost use Rattle.rl_sites.specs.internal.Parts.{parts};
+ghost use Rattle.rl_sites.specs.internal.Parts.{separates};
 ghost use Rattle.rl_sites.specs.internal.Walks.{IsTable, argument_size, first_argument, others_from, other_arguments, has_form};
 ghost use Rattle.rl_sites.specs.Flags.{is_named, is_flags_argument, is_starred};
 ghost use Rattle.rl_sites.specs.Significant.{is_name, is_word};
@@ -18,7 +19,8 @@ pub enum Form {
     FlagsNamed,
 }
 
-/// Whether the tokens after `token` are between a `lambda` and its `:`. Only tokens outside the brackets of the arguments count.
+/// Whether the tokens after `token` are between a `lambda` and its `:`. Only tokens outside the brackets of the arguments
+/// count.
 #[tactic(auto, unfolding(crate::specs::Arguments::lambda_after))]
 fn lambda_after(source: &[u8], in_lambda: bool, token: SignificantToken) -> bool
     ensures { result ≡ lambda_after source.now in_lambda token }
@@ -26,20 +28,21 @@ fn lambda_after(source: &[u8], in_lambda: bool, token: SignificantToken) -> bool
     is_word(source, b"lambda", token) || (in_lambda && !is_op(source, b":", token))
 }
 
-fn parts(source: &[u8], in_lambda: bool, token: SignificantToken) -> bool
-    ensures { result ≡ parts source.now in_lambda token }
+fn separates(source: &[u8], in_lambda: bool, token: SignificantToken) -> bool
+    ensures { result ≡ separates source.now in_lambda token }
 {
     is_op(source, b",", token) && !in_lambda
 }
 
 /// Whether an argument ends before a token that is outside the argument's own brackets.
 fn ends_argument(source: &[u8], in_lambda: bool, token: SignificantToken) -> bool
-    ensures { result ≡ (not (opens source.now token) && (closes source.now token || parts source.now in_lambda token)) }
+    ensures { result ≡ (not (opens source.now token) && (closes source.now token || separates source.now in_lambda token)) }
 {
-    !opens(source, token) && (closes(source, token) || parts(source, in_lambda, token))
+    !opens(source, token) && (closes(source, token) || separates(source, in_lambda, token))
 }
 
-/// Returns the number of tokens in the argument that `rest` begins with.
+/// Returns the number of tokens in the argument with which `rest` begins, up to but not including the `,` or the bracket that
+/// ends it, or all tokens if nothing ends it. `sizes` must be a table of sizes that covers `rest`.
 pub fn argument_size(source: &[u8], rest: &[SignificantToken], sizes: &[usize]) -> usize
     requires { IsTable source.now rest.now sizes.now }
     ensures value { result ≡ argument_size source.now 0 false rest.now }
@@ -59,8 +62,8 @@ pub fn argument_size(source: &[u8], rest: &[SignificantToken], sizes: &[usize]) 
     rest.len() - left.len()
 }
 
-/// Returns the tokens of the remaining arguments, or `None` if there are none. `behind` are the tokens after an argument,
-/// which begin with the `,` that separates it from the next argument if there is one.
+/// Returns the tokens from the next argument on, or `None` if there is no other argument. `behind` has the tokens after an
+/// argument: they begin with the `,` before the next one, or with the bracket that closes the call, or there are none.
 #[tactic(auto, using(crate::proofs::Walking::others))]
 pub fn other_arguments<'a>(
     source: &[u8],
@@ -74,7 +77,7 @@ pub fn other_arguments<'a>(
     }
 }
 
-/// Whether the argument begins with a name and a single `=`.
+/// Whether the argument begins with a name and a single `=`, which no second `=` follows.
 #[tactic(auto, unfolding(crate::specs::Flags::is_named))]
 pub fn is_named(source: &[u8], argument: &[SignificantToken]) -> bool
     ensures { result ≡ is_named source.now is_name argument.now }
@@ -124,14 +127,17 @@ fn behind_first<'a>(
     rest_from(rest, argument_size(source, rest, sizes))
 }
 
-/// An argument that was found, and the tokens after it.
+/// An argument that was found.
 #[derive(Clone, Copy)]
 pub struct Found<'a> {
+    /// Its tokens, without the `,` or the bracket that ends it.
     pub argument: &'a [SignificantToken],
+    /// All tokens after it. They begin with the `,` or the bracket that ends it, if there is one.
     pub behind: &'a [SignificantToken],
 }
 
-/// Finds the first of the arguments that has the form.
+/// Returns the first of the arguments that has the form, with the tokens after it, or `None` if none has the form. `arguments`
+/// has the tokens of all of them, and `sizes` must be a table of sizes that covers these.
 #[tactic(auto, using(crate::proofs::Walking::walks))]
 pub fn find_argument<'a>(
     source: &[u8],
@@ -158,7 +164,8 @@ pub fn find_argument<'a>(
     }
 }
 
-/// Returns the argument with this index, counted from 0.
+/// Returns the tokens of the argument with the index `place`, counted from 0, or `None` if there is no argument with this
+/// index. `arguments` has the tokens of all of them, and `sizes` must be a table of sizes that covers these.
 #[tactic(auto, using(crate::proofs::Walking::walks))]
 pub fn argument_at<'a>(
     source: &[u8],

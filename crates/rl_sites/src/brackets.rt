@@ -1,4 +1,6 @@
-//! Brackets, and the distance to the closing one.
+//! Brackets, and the distance to the closing one. The table of sizes has an entry for each suffix of a list of tokens, at the
+//! index of its length: the number of tokens up to and including the first bracket that closes one opened before the suffix,
+//! or the suffix's length if there is no such bracket.
 ghost use Rattle.std.specs.Prelude.{◌≡◌, ◌≤◌, ◌<◌, ◌+◌, ◌&&◌, not, length, drop, IfOk, if◌then◌else◌};
 ghost use Rattle.rl_sites.specs.Arguments.{opens, closes};
 ghost use Rattle.rl_sites.specs.internal.Walks.{inside_size, IsTable};
@@ -33,8 +35,9 @@ fn size_inside(source: &[u8], rest: &[SignificantToken], sizes: &[usize]) -> usi
     sizes[rest.len()]
 }
 
-/// Returns the number of tokens in `after` that belong to the brackets that `token` opens, including the closing one; 0 if
-/// `token` doesn't open any.
+/// Returns the number of tokens from the beginning of `after`, which follows `token`, up to and including the bracket that
+/// closes `token`, or all of them if none does. Returns 0 if `token` isn't an opening bracket. `sizes` must be
+/// the table of sizes of `after`.
 pub fn jump_size(
     source: &[u8],
     token: SignificantToken,
@@ -58,8 +61,8 @@ fn only_closes(source: &[u8], token: SignificantToken) -> bool
     !opens(source, token) && closes(source, token)
 }
 
-/// Returns the number of tokens up to and including the bracket that closes the one that `rest` is inside, by the table for all
-/// tokens of `rest` except the first.
+/// Returns the number of tokens up to and including the bracket that closes the one that `rest` is inside, by the table for
+/// all tokens of `rest` except the first.
 #[tactic(auto, using(crate::proofs::Tables::tables))]
 fn next_size(source: &[u8], rest: &[SignificantToken], sizes: &[usize]) -> usize
     requires some { 0 < length rest.now }
@@ -75,7 +78,10 @@ fn next_size(source: &[u8], rest: &[SignificantToken], sizes: &[usize]) -> usize
     1 + inner + size_inside(source, rest_from(after, inner), sizes)
 }
 
-/// Returns the table of sizes: for each suffix of the tokens, the number of its tokens up to and including the closing bracket.
+/// Returns the table of sizes of the tokens.
+///
+/// # Errors
+/// [`OutOfMemory`] if memory runs out.
 #[tactic(auto, using(crate::proofs::Tables::tables))]
 pub fn sizes_of(
     alloc: Global,

@@ -1,6 +1,6 @@
 //! The flags of the module `re`.
 
-/// The flag that one of the sixteen flag names of the module sets.
+/// The flag that one of the sixteen flag names of the module sets. Each flag has two names.
 #[derive(Clone, Copy)]
 pub enum Flag {
     /// `A` and `ASCII`

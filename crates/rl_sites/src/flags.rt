@@ -1,10 +1,11 @@
-//! The flags of a call, decided by its arguments.
+//! The flags of a call, decided by its arguments. A term is a part of an argument that sets one flag, such as `re.I`. The
+//! table of sizes of some tokens is what `brackets::sizes_of` returns for them.
 ghost use Rattle.std.specs.Prelude.{◌≡◌, ◌≤◌, Some, slice_get, length, filter};
 ghost use Rattle.std.specs.List.{list_any};
 ghost use Rattle.rl_sites.specs.Arguments.{arguments_of};
 ghost use Rattle.rl_sites.specs.internal.Walks.{IsTable, others_from, has_form, is_filled};
 ghost use Rattle.rl_sites.specs.Flags.{is_starred, is_flags_argument, position, flags_by, flags_by_place, flags_by_name, flags_of};
-ghost use Rattle.rl_sites.specs.internal.Meanings.{IsMeant};
+ghost use Rattle.rl_sites.specs.internal.Meanings.{IsMeaningTable};
 
 use crate::arguments::{Form, argument_at, find_argument, is_named, other_arguments};
 use crate::names::Names;
@@ -52,7 +53,7 @@ fn position(call: Call) -> usize
 
 /// Returns the flags that the argument at that index gives.
 fn flags_placed(source: &[u8], names: &Names<'_>, argument: &[SignificantToken]) -> SiteFlags
-    requires { IsMeant source.now names.now.aliases.items names.now.meanings.entries }
+    requires { IsMeaningTable source.now names.now.aliases.items names.now.meanings.entries }
     ensures { result ≡ flags_by_place source.now names.now.aliases.items (Some argument.now) }
 {
     if argument.is_empty() || is_named(source, argument) {
@@ -69,7 +70,7 @@ fn flags_by_place(
     arguments: &[SignificantToken],
     sizes: &[usize],
 ) -> SiteFlags
-    requires meant { IsMeant source.now names.now.aliases.items names.now.meanings.entries }
+    requires meant { IsMeaningTable source.now names.now.aliases.items names.now.meanings.entries }
     requires table { IsTable source.now arguments.now sizes.now }
     ensures { result ≡ flags_by_place source.now names.now.aliases.items (slice_get (arguments_of source.now arguments.now) (position call)) }
 {
@@ -88,7 +89,7 @@ fn flags_by_name(
     arguments: &[SignificantToken],
     sizes: &[usize],
 ) -> SiteFlags
-    requires meant { IsMeant source.now names.now.aliases.items names.now.meanings.entries }
+    requires meant { IsMeaningTable source.now names.now.aliases.items names.now.meanings.entries }
     requires table { IsTable source.now arguments.now sizes.now }
     ensures { result ≡ flags_by_name source.now names.now.aliases.items (filter (is_flags_argument source.now) (arguments_of source.now arguments.now)) (slice_get (arguments_of source.now arguments.now) (position call)) }
 {
@@ -104,7 +105,15 @@ fn flags_by_name(
     }
 }
 
-/// Returns the flags of a call whose arguments `arguments` begins with.
+/// Returns the flags of a call of the function `call`. `arguments` has the tokens after its opening bracket, `sizes` must be
+/// their table of sizes, and `names` must be what `names_of` returns for the source. The first case that applies counts:
+/// - unknown if an argument begins with `*`, or if several are named `flags`
+/// - those of the argument named `flags`, if there is one
+/// - none set if the argument at the index that the function has for flags is missing or empty, or begins with a name and a
+///   single `=`
+/// - those of the argument at this index
+///
+/// The flags of an argument that doesn't consist of terms are unknown.
 #[tactic(auto, unfolding(crate::specs::Flags::flags_of))]
 pub fn flags_of(
     source: &[u8],
@@ -113,7 +122,7 @@ pub fn flags_of(
     arguments: &[SignificantToken],
     sizes: &[usize],
 ) -> SiteFlags
-    requires meant { IsMeant source.now names.now.aliases.items names.now.meanings.entries }
+    requires meant { IsMeaningTable source.now names.now.aliases.items names.now.meanings.entries }
     requires table { IsTable source.now arguments.now sizes.now }
     ensures { result ≡ flags_of source.now names.now.aliases.items call (arguments_of source.now arguments.now) }
 {

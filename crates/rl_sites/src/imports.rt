@@ -1,6 +1,7 @@
-//! The aliases that the imports of a source define.
+//! The aliases that the imports of a source define. An alias is a name that an import gives to the module `re` or to one of
+//! its members. The significant tokens of a source are all except comments.
 ghost use Rattle.std.specs.Prelude.{◌≡◌, ◌≤◌, ◌+◌, ◌++◌, ℕ, List, [], IsTrue, IfOk, OnOk, length, drop, codes, option_to_list, if◌then◌else◌};
-ghost use Rattle.rl_sites.specs.Significant.{is_name, is_op, stands};
+ghost use Rattle.rl_sites.specs.Significant.{is_name, is_op, is_at};
 ghost use Rattle.rl_sites.specs.Imports.{ends_statement, is_renamed, dots_size, joined_size, item_size, given_name, item_alias, items_from, is_from_import, import_here, aliases_from, aliases_of};
 ghost use Rattle.rl_sites.specs.internal.Parts.{as_size};
 
@@ -10,10 +11,12 @@ use crate::significant::{
 use rl_lists::OutOfMemory;
 use std::alloc::Global;
 
-/// A name that an import gives to the module `re`, or to the member of the module that a token names.
+/// A name that an import gives to the module `re` or to one of its members.
 #[derive(Clone, Copy)]
 pub struct Alias {
+    /// The token that is the name: `r` in `import re as r`, and `m` in `from re import match as m`.
     pub name: SignificantToken,
+    /// The token that names the member in the module, such as `match`. `None` if the name is given to the module itself.
     pub member: Option<SignificantToken>,
 }
 
@@ -26,7 +29,8 @@ pub enum Import {
     Member,
 }
 
-/// Whether a statement begins after the token.
+/// Whether the token is a line end, a `;` or a `:`. Such a token is taken to end a statement: an import is read if it comes
+/// directly after one, also after a `:` that is followed by an expression, as in `{1: 2}`.
 #[tactic(auto, unfolding(crate::specs::Imports::ends_statement))]
 pub fn ends_statement(source: &[u8], token: SignificantToken) -> bool
     ensures { result ≡ ends_statement source.now token }
@@ -185,7 +189,7 @@ fn is_from_import(source: &[u8], rest: &[SignificantToken]) -> bool
 
 /// Returns the tokens after a `(` if they begin with one, otherwise all of them.
 fn behind_bracket<'a>(source: &[u8], rest: &'a [SignificantToken]) -> &'a [SignificantToken]
-    ensures { result.now ≡ drop (if stands 0 (is_op source.now (codes "(")) rest.now then 1 else 0) rest.now }
+    ensures { result.now ≡ drop (if is_at 0 (is_op source.now (codes "(")) rest.now then 1 else 0) rest.now }
 {
     if op_at(source, b"(", rest, 0) {
         rest_from(rest, 1)
@@ -229,7 +233,10 @@ fn push_statement(
     }
 }
 
-/// Returns the aliases of a source.
+/// Returns the aliases that the imports of a source define, in order, given its significant tokens.
+///
+/// # Errors
+/// [`OutOfMemory`] if memory runs out.
 pub fn aliases_of(
     alloc: Global,
     source: &[u8],

@@ -21,7 +21,8 @@
 //! has_no_sites(b"import os\nos.walk('a')\n"); // true
 //! ```
 //!
-//! Read `specs/Sites.antt` first, then `specs/Imports.antt`, `specs/Names.antt`, `specs/Arguments.antt` and `specs/Flags.antt`.
+//! Read `specs/Sites.antt` first, then `specs/Imports.antt`, `specs/Names.antt`, `specs/Arguments.antt` and
+//! `specs/Flags.antt`.
 #![tactic(auto)]
 
 mod absence;

@@ -1,8 +1,9 @@
-//! The meanings of names: the module, its nine functions that take a pattern first, and its flags.
+//! The meanings of names: the module `re`, its nine functions that take a pattern first, and its flags. An alias is a name
+//! that an import of the source gives to the module, or to one of its members.
 ghost use Rattle.std.specs.Prelude.{◌≡◌, ℕ, List, None, IfOk, OnOk};
 ghost use Rattle.rl_sites.specs.Names.{is_module, call_named, call_word, flag_named, call_aliased, flag_aliased};
 ghost use Rattle.rl_sites.specs.Significant.{word_of};
-ghost use Rattle.rl_sites.specs.internal.Meanings.{call_rank, flag_rank, flag_words, is_word_of, earlier, joined, own_meaning, meaning_with, meaning_of, meaning_in, IsMeant, call_of, flag_of};
+ghost use Rattle.rl_sites.specs.internal.Meanings.{call_rank, flag_rank, flag_words, is_word_of, earlier, joined, own_meaning, meaning_with, meaning_of, meaning_in, IsMeaningTable, call_of, flag_of};
 
 use crate::Call;
 use crate::flag::Flag;
@@ -13,12 +14,12 @@ use indexmap::IndexMap;
 use rl_lists::OutOfMemory;
 use std::alloc::Global;
 
-/// The meanings of the names in a source.
+/// The meanings that the imports of a source give to names.
 #[derive(Drop)]
 pub struct Names<'a> {
-    /// The aliases of the source.
+    /// The aliases of the source, in order.
     pub aliases: Vec<Alias>,
-    /// The meaning of each of their names.
+    /// The meaning of each name that is an alias, by the bytes of the name. Other names have no entry.
     pub meanings: IndexMap<&'a [u8], Meaning>,
 }
 
@@ -206,7 +207,7 @@ fn meanings_of<'a>(
     source: &'a [u8],
     aliases: &[Alias],
 ) -> Result<IndexMap<&'a [u8], Meaning>, OutOfMemory>
-    ensures { IfOk result (λ meanings. IsMeant source.now aliases.now meanings.entries) }
+    ensures { IfOk result (λ meanings. IsMeaningTable source.now aliases.now meanings.entries) }
 {
     let mut meanings = IndexMap::new(alloc);
     for alias in aliases {
@@ -215,13 +216,16 @@ fn meanings_of<'a>(
     Ok(meanings)
 }
 
-/// Returns the meanings of the names in a source with these aliases.
+/// Returns `aliases`, which are taken to be those of the source, with the table of the meanings that they give to their names.
+///
+/// # Errors
+/// [`OutOfMemory`] if memory runs out.
 pub fn names_of<'a>(
     alloc: Global,
     source: &'a [u8],
     aliases: Vec<Alias>,
 ) -> Result<Names<'a>, OutOfMemory>
-    ensures meant { IfOk result (λ names. IsMeant source.now names.aliases.items names.meanings.entries) }
+    ensures meant { IfOk result (λ names. IsMeaningTable source.now names.aliases.items names.meanings.entries) }
     ensures aliases { IfOk result (λ names. names.aliases.items ≡ aliases.items) }
 {
     let meanings = meanings_of(alloc, source, aliases.as_slice())?;
@@ -230,22 +234,23 @@ pub fn names_of<'a>(
 
 /// Returns the meaning of a token's text.
 fn meaning_of(source: &[u8], names: &Names<'_>, token: SignificantToken) -> Meaning
-    requires { IsMeant source.now names.now.aliases.items names.now.meanings.entries }
+    requires { IsMeaningTable source.now names.now.aliases.items names.now.meanings.entries }
     ensures { result ≡ meaning_of source.now names.now.aliases.items (word_of source.now token) }
 {
     meaning_in(&names.meanings, word_of(source, token))
 }
 
-/// Whether the token is a name and an alias of the module.
+/// Whether the token is a name that is an alias of the module. `names` must be what [`names_of`] returns for the source.
 #[tactic(auto, unfolding(crate::specs::Names::is_module))]
 pub fn is_module(source: &[u8], names: &Names<'_>, token: SignificantToken) -> bool
-    requires { IsMeant source.now names.now.aliases.items names.now.meanings.entries }
+    requires { IsMeaningTable source.now names.now.aliases.items names.now.meanings.entries }
     ensures { result ≡ is_module source.now names.now.aliases.items token }
 {
     is_name(token) && meaning_of(source, names, token).of_module
 }
 
-/// Returns the function whose own name the token is, if there is one.
+/// Returns the function whose name in the module the token is, or `None` if it isn't such a name. What comes before the token
+/// isn't examined.
 #[tactic(auto, unfolding(crate::specs::Names::call_named, crate::specs::internal::Meanings::call_of))]
 pub fn call_named(source: &[u8], token: SignificantToken) -> Option<Call>
     ensures { result ≡ call_named source.now token }
@@ -257,7 +262,8 @@ pub fn call_named(source: &[u8], token: SignificantToken) -> Option<Call>
     }
 }
 
-/// Returns the flag whose own name the token is, if there is one.
+/// Returns the flag whose name in the module the token is, or `None` if it isn't such a name. What comes before the token
+/// isn't examined.
 #[tactic(auto, unfolding(crate::specs::Names::flag_named, crate::specs::internal::Meanings::flag_of))]
 pub fn flag_named(source: &[u8], token: SignificantToken) -> Option<Flag>
     ensures { result ≡ flag_named source.now token }
@@ -269,10 +275,11 @@ pub fn flag_named(source: &[u8], token: SignificantToken) -> Option<Flag>
     }
 }
 
-/// Returns the function that the token is an alias of, or the first one if there are several.
+/// Returns the function that the token is an alias of, the first in the order of [`Call`] if there are several, or `None` if
+/// there is none. `names` must be what [`names_of`] returns for the source.
 #[tactic(auto, unfolding(crate::specs::Names::call_aliased, crate::specs::internal::Meanings::first_call))]
 pub fn call_aliased(source: &[u8], names: &Names<'_>, token: SignificantToken) -> Option<Call>
-    requires { IsMeant source.now names.now.aliases.items names.now.meanings.entries }
+    requires { IsMeaningTable source.now names.now.aliases.items names.now.meanings.entries }
     ensures { result ≡ call_aliased source.now names.now.aliases.items token }
 {
     if is_name(token) {
@@ -282,10 +289,11 @@ pub fn call_aliased(source: &[u8], names: &Names<'_>, token: SignificantToken) -
     }
 }
 
-/// Returns the flag that the token is an alias of, or the first one if there are several.
+/// Returns the flag that the token is an alias of, the first in the order of [`Flag`] if there are several, or `None` if there
+/// is none. `names` must be what [`names_of`] returns for the source.
 #[tactic(auto, unfolding(crate::specs::Names::flag_aliased, crate::specs::internal::Meanings::first_flag))]
 pub fn flag_aliased(source: &[u8], names: &Names<'_>, token: SignificantToken) -> Option<Flag>
-    requires { IsMeant source.now names.now.aliases.items names.now.meanings.entries }
+    requires { IsMeaningTable source.now names.now.aliases.items names.now.meanings.entries }
     ensures { result ≡ flag_aliased source.now names.now.aliases.items token }
 {
     if is_name(token) {

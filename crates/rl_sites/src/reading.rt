@@ -1,4 +1,5 @@
-//! The sites of a source.
+//! The sites of a source: its calls of the module `re` whose first argument begins with a run of literals. An alias is a name
+//! that an import of the source gives to the module or to one of its members.
 ghost use Rattle.std.specs.Prelude.{◌≡◌, ◌≤◌, ◌<◌, ◌+◌, ◌-◌, ◌++◌, length, take, drop, slice_get, not, false, position, All, IfOk, IfSome, OnOk, option_to_list};
 ghost use Rattle.std.specs.List.{prefix_len};
 ghost use Rattle.rl_pylex.specs.Source.{IsTokenList};
@@ -9,7 +10,7 @@ ghost use Rattle.rl_sites.specs.Imports.{aliases_of};
 ghost use Rattle.rl_sites.specs.Sites.{pattern_size, site_of_run, ends_whole, site_behind, hides, sites_from, sites_of};
 ghost use Rattle.rl_sites.specs.internal.Parts.{site_by, flags_if, is_hidden, open_head};
 ghost use Rattle.rl_sites.specs.Runs.{HasRun, AreInOrder};
-ghost use Rattle.rl_sites.specs.internal.Meanings.{IsMeant};
+ghost use Rattle.rl_sites.specs.internal.Meanings.{IsMeaningTable};
 
 use crate::brackets::sizes_of;
 use crate::flags::flags_of;
@@ -78,7 +79,7 @@ fn flags_if(
     rest: &[SignificantToken],
     sizes: &[usize],
 ) -> SiteFlags
-    requires meant { IsMeant source.now names.now.aliases.items names.now.meanings.entries }
+    requires meant { IsMeaningTable source.now names.now.aliases.items names.now.meanings.entries }
     requires table { IsTable source.now rest.now sizes.now }
     ensures { result ≡ flags_if whole source.now names.now.aliases.items call rest.now }
 {
@@ -119,7 +120,7 @@ fn site_behind(
     rest: &[SignificantToken],
     sizes: &[usize],
 ) -> Option<Site>
-    requires meant { IsMeant source.now names.now.aliases.items names.now.meanings.entries }
+    requires meant { IsMeaningTable source.now names.now.aliases.items names.now.meanings.entries }
     requires table { IsTable source.now rest.now sizes.now }
     requires numbered { IsNumbered rest.now }
     ensures { result ≡ site_behind source.now names.now.aliases.items call rest.now }
@@ -156,7 +157,7 @@ fn open_head(
     before: Option<SignificantToken>,
     rest: &[SignificantToken],
 ) -> Option<Head>
-    requires { IsMeant source.now names.now.aliases.items names.now.meanings.entries }
+    requires { IsMeaningTable source.now names.now.aliases.items names.now.meanings.entries }
     ensures value { result ≡ open_head source.now names.now.aliases.items before rest.now }
     ensures within { IfSome result (λ found. found.size ≤ length rest.now) }
 {
@@ -175,7 +176,7 @@ fn site_here(
     rest: &[SignificantToken],
     sizes: &[usize],
 ) -> Option<Site>
-    requires meant { IsMeant source.now names.now.aliases.items names.now.meanings.entries }
+    requires meant { IsMeaningTable source.now names.now.aliases.items names.now.meanings.entries }
     requires table { IsTable source.now rest.now sizes.now }
     requires numbered { IsNumbered rest.now }
     ensures { result ≡ site_by source.now names.now.aliases.items (open_head source.now names.now.aliases.items before rest.now) rest.now }
@@ -195,7 +196,7 @@ fn push_site(
     rest: &[SignificantToken],
     sizes: &[usize],
 ) -> Result<(), OutOfMemory>
-    requires meant { IsMeant source.now names.now.aliases.items names.now.meanings.entries }
+    requires meant { IsMeaningTable source.now names.now.aliases.items names.now.meanings.entries }
     requires table { IsTable source.now rest.now sizes.now }
     requires numbered { IsNumbered rest.now }
     ensures { OnOk result (sites.new ≡ sites.old ++ option_to_list (site_by source.now names.now.aliases.items (open_head source.now names.now.aliases.items before rest.now) rest.now)) }
@@ -215,7 +216,7 @@ fn sites_among(
     tokens: &[SignificantToken],
     sizes: &[usize],
 ) -> Result<SiteList, OutOfMemory>
-    requires meant { IsMeant source.now names.now.aliases.items names.now.meanings.entries }
+    requires meant { IsMeaningTable source.now names.now.aliases.items names.now.meanings.entries }
     requires table { IsTable source.now tokens.now sizes.now }
     requires numbered { IsNumbered tokens.now }
     ensures { IfOk result (λ sites. sites ≡ sites_from source.now names.now.aliases.items false tokens.now) }
@@ -238,7 +239,7 @@ fn from_first_call<'a>(
     names: &Names<'_>,
     tokens: &'a [SignificantToken],
 ) -> &'a [SignificantToken]
-    requires meant { IsMeant source.now names.now.aliases.items names.now.meanings.entries }
+    requires meant { IsMeaningTable source.now names.now.aliases.items names.now.meanings.entries }
     requires numbered { IsNumbered tokens.now }
     ensures same { sites_from source.now names.now.aliases.items false result.now ≡ sites_from source.now names.now.aliases.items false tokens.now }
     ensures numbered { IsNumbered result.now }
@@ -262,7 +263,7 @@ fn sites_named(
     names: &Names<'_>,
     tokens: &[SignificantToken],
 ) -> Result<SiteList, OutOfMemory>
-    requires meant { IsMeant source.now names.now.aliases.items names.now.meanings.entries }
+    requires meant { IsMeaningTable source.now names.now.aliases.items names.now.meanings.entries }
     requires numbered { IsNumbered tokens.now }
     ensures { IfOk result (λ sites. sites ≡ sites_from source.now names.now.aliases.items false tokens.now) }
 {

@@ -1,11 +1,12 @@
-//! The flags that an argument gives, which consists of terms separated by `|`.
+//! The flags that an argument gives, which consists of terms separated by `|`. A term is the number `0`, an alias of a flag,
+//! or an alias of the module, `.` and a flag's name.
 ghost use Rattle.std.specs.Prelude.{◌≡◌, ◌≤◌, ◌&&◌, codes, length, take, not, position};
 ghost use Rattle.std.specs.List.{prefix_len};
 ghost use Rattle.rl_sites.specs.Significant.{is_op};
 ghost use Rattle.rl_sites.specs.Names.{is_module};
 ghost use Rattle.rl_sites.specs.Flags.{no_flags, with_flag, term, flags_by};
 ghost use Rattle.rl_sites.specs.internal.Parts.{lone_term, is_bar, dotted_term};
-ghost use Rattle.rl_sites.specs.internal.Meanings.{IsMeant};
+ghost use Rattle.rl_sites.specs.internal.Meanings.{IsMeaningTable};
 
 use crate::SiteFlags;
 use crate::flag::Flag;
@@ -13,7 +14,7 @@ use crate::names::{Names, flag_aliased, flag_named, is_module};
 use crate::significant::{SignificantToken, is_op, is_zero, rest_from};
 use rl_pattern::Flags;
 
-/// Returns flags of which none is set.
+/// Returns the flags of which none is set.
 pub fn no_flags() -> Flags
     ensures { result ≡ no_flags }
 {
@@ -66,7 +67,7 @@ fn with_flag(flag: Flag, flags: Flags) -> Flags
 
 /// Returns the flag that a term of one token sets. Such a term is the number `0` or an alias of a flag.
 fn lone_term(source: &[u8], names: &Names<'_>, token: SignificantToken) -> Option<Flag>
-    requires { IsMeant source.now names.now.aliases.items names.now.meanings.entries }
+    requires { IsMeaningTable source.now names.now.aliases.items names.now.meanings.entries }
     ensures { result ≡ lone_term source.now names.now.aliases.items token }
 {
     if is_zero(source, token) {
@@ -82,7 +83,7 @@ fn is_dotted(
     token: SignificantToken,
     dot: SignificantToken,
 ) -> bool
-    requires { IsMeant source.now names.now.aliases.items names.now.meanings.entries }
+    requires { IsMeaningTable source.now names.now.aliases.items names.now.meanings.entries }
     ensures { result ≡ (is_module source.now names.now.aliases.items token && is_op source.now (codes ".") dot) }
 {
     is_module(source, names, token) && is_op(source, b".", dot)
@@ -96,7 +97,7 @@ fn dotted_term(
     dot: SignificantToken,
     name: SignificantToken,
 ) -> Option<Flag>
-    requires { IsMeant source.now names.now.aliases.items names.now.meanings.entries }
+    requires { IsMeaningTable source.now names.now.aliases.items names.now.meanings.entries }
     ensures { result ≡ dotted_term source.now names.now.aliases.items token dot name }
 {
     if is_dotted(source, names, token, dot) {
@@ -109,7 +110,7 @@ fn dotted_term(
 /// Returns the flag that the tokens set, if they are a term.
 #[tactic(auto, using(crate::proofs::TermFacts::terms))]
 fn term(source: &[u8], names: &Names<'_>, tokens: &[SignificantToken]) -> Option<Flag>
-    requires { IsMeant source.now names.now.aliases.items names.now.meanings.entries }
+    requires { IsMeaningTable source.now names.now.aliases.items names.now.meanings.entries }
     ensures { result ≡ term source.now names.now.aliases.items tokens.now }
 {
     match tokens {
@@ -149,11 +150,11 @@ fn front(tokens: &[SignificantToken]) -> &[SignificantToken]
     &tokens[..tokens.len().min(4)]
 }
 
-/// Returns the flags of an argument that consists of one or more terms separated by `|`. For any other argument they are
-/// unknown.
+/// Returns the flags of an argument that consists of one or more terms separated by `|`. For any other argument, also an empty
+/// one, they are unknown. `names` must be what `names_of` returns for the source.
 #[tactic(auto, using(crate::proofs::TermFacts::steps), unfolding(crate::specs::Flags::flags_by))]
 pub fn flags_by(source: &[u8], names: &Names<'_>, argument: &[SignificantToken]) -> SiteFlags
-    requires { IsMeant source.now names.now.aliases.items names.now.meanings.entries }
+    requires { IsMeaningTable source.now names.now.aliases.items names.now.meanings.entries }
     ensures { result ≡ flags_by source.now names.now.aliases.items argument.now }
 {
     let mut flags = no_flags();

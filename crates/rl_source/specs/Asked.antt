@@ -1,4 +1,6 @@
--- What a call of a tree adds to the trail, and what its failure implies.
+-- What a call of a tree of files adds to the trail, and what its failure implies. The trail is the list of the calls on the
+-- tree so far, in order, except those that ran out of memory. The fault count of a tree is the number of its calls that
+-- returned `Failed`, at most 2^64 - 1.
 use Rattle.std.specs.Prelude.{◌≡◌, ℕ, ◌≤◌, Bool, true, false, List, [], ◌∷◌, Result, Ok, Err, IsErrOf}
 use Rattle.rl_source.specs.Faults.{Rose, next_count}
 use Rattle.rl_source.specs.declared.nodes.Call.{Call}
@@ -6,22 +8,25 @@ use Rattle.rl_source.specs.declared.nodes.CallName.{CallName}
 use Rattle.rl_source.specs.declared.trees.TreeError.{TreeError}
 use Rattle.rl_source.specs.declared.trees.TreeError.TheVariants as error
 
--- The call with this name and path. The flag says whether it failed.
+-- The call with this name and path. `failed` says whether it returned `Failed`.
 abbrev pub call_of : CallName → List ℕ → Bool → Call
 call_of name path failed = record { name = name; path = path; failed = failed }
 
--- What a call with this result adds to the trail. A call that ran out of memory adds nothing.
+-- What the call with this name, path and result adds to the trail: the call, with a mark if it failed. A call that ran out of
+-- memory adds nothing.
 abbrev pub noted : {A : Type 0} → CallName → List ℕ → Result A TreeError → List Call
 noted name path (Ok answer) = call_of name path false ∷ []
 noted name path (Err error.Failed) = call_of name path true ∷ []
 noted name path (Err error.OutOfMemory) = []
 
--- The fault count doesn't decrease, and the call returns `Failed` only if the count increased or is saturated.
+-- Holds if the fault count doesn't decrease from `before` to `now`, and the result is `Failed` only if the count increased or
+-- is saturated (2^64 - 1).
 pub record HasTreeCause {A : Type 0} (before now : ℕ) (result : Result A TreeError) : Type 0 where
   pub later : before ≤ now
   pub failed : IsErrOf result error.Failed → Rose before now
 
--- The fault count increases by one if the call returns `Failed`, unless it is saturated, and never otherwise.
+-- Holds if the fault count changes from `before` to `now` as it has to: if the result is `Failed`, it increases by one, unless
+-- it is saturated (2^64 - 1); for any other result it stays the same.
 abbrev pub CountsFailed : {A : Type 0} → ℕ → ℕ → Result A TreeError → Type 0
 CountsFailed before now (Ok answer) = now ≡ before
 CountsFailed before now (Err error.Failed) = now ≡ next_count before

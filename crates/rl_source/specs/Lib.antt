@@ -1,7 +1,7 @@
 pub mod Faults
 pub mod NodeMap
 pub mod Distinct
-pub mod Told
+pub mod Revealed
 pub mod Asked
 pub mod Written
 pub mod MemSinkState

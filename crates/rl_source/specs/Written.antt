@@ -1,13 +1,16 @@
--- Which part of a text a sink has received, if it reveals its bytes.
+-- Which part of a text a sink, to which bytes are written, has received: given the bytes that it revealed before and those
+-- that it reveals afterwards. Both are `None` if it reveals none.
 use Rattle.std.specs.Prelude.{◌≡◌, ℕ, ◌<◌, ◌≤◌, List, ◌++◌, length, take, Option, Some, None, ⊤}
 
--- The sink received a proper prefix of the text.
+-- Holds if the bytes of the sink afterwards are those before with a proper prefix of the text appended, perhaps the empty one,
+-- or if the sink revealed no bytes before. It doesn't hold if the sink revealed bytes only before.
 abbrev pub GainsLess : Option (List ℕ) → Option (List ℕ) → List ℕ → Type 0
 GainsLess None new text = ⊤
 GainsLess (Some held) None text = ⊥
 GainsLess (Some held) (Some now) text = (n : ℕ) × (n < length text) × (now ≡ held ++ take n text)
 
--- The sink received a prefix of the text, which may be all of it.
+-- Holds if the bytes of the sink afterwards are those before with a prefix of the text appended, perhaps the empty one or all
+-- of the text, or if the sink revealed no bytes before. It doesn't hold if the sink revealed bytes only before.
 abbrev pub GainsSome : Option (List ℕ) → Option (List ℕ) → List ℕ → Type 0
 GainsSome None new text = ⊤
 GainsSome (Some held) None text = ⊥

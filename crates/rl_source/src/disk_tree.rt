@@ -1,4 +1,4 @@
-//! A tree over the file system.
+//! A tree over the file system. The fault count of a tree is the number of its calls that returned `Failed`, at most 2^64 - 1.
 ghost use Rattle.std.specs.Prelude.{◌≡◌, ◌≢◌, take, Some, Ok, IfOk, IfErr, IsErrOf, IfSome, IsSomeAnd};
 ghost use Rattle.std.specs.IoError.{error_kind};
 
@@ -9,7 +9,7 @@ use std::io::{ErrorKind, Read};
 use std::marker::Model;
 use std::{fs, io};
 
-/// The type of the runtime that `main` receives.
+/// The type of the runtime that `main` receives, through which a program reaches the file system.
 pub type Runtime = HostRuntime;
 
 /// A tree over the file system. It reveals neither its map nor its trail to contracts.
@@ -18,14 +18,16 @@ pub type Runtime = HostRuntime;
 /// UTF-8 can't be listed. Every error of the system except running out of memory counts as a fault.
 #[derive(Drop)]
 pub struct DiskTree<'r> {
+    /// The runtime through which the file system is reached.
     rt: &'r Runtime,
+    /// The number of calls that failed, at most 2^64 - 1.
     faults: u64,
 }
 
 impl<'r> Model for DiskTree<'r> {
     ghost use Rattle.std.specs.Prelude.{ℕ};
 
-    // the number of faults
+    // The number of faults
     ghost Value = { ℕ };
 
     ghost view = { λ t. t.faults };
@@ -34,7 +36,7 @@ impl<'r> Model for DiskTree<'r> {
 impl<'r> DiskTree<'r> {
     ghost use Rattle.rl_source.specs.Asked.{HasTreeCause, CountsFailed};
 
-    /// Creates a tree over the file system that this runtime can reach.
+    /// Returns a tree over the file system that this runtime can reach. Its fault count is 0.
     pub fn new(rt: &'r Runtime) -> DiskTree<'r>
         ensures { result ≡ 0 }
     {
@@ -63,12 +65,12 @@ impl<'r> DiskTree<'r> {
 }
 
 impl<'r> Tree for DiskTree<'r> {
-    ghost use Rattle.rl_source.specs.Told.{after, tells_nothing};
+    ghost use Rattle.rl_source.specs.Revealed.{after, reveals_nothing};
     ghost use Rattle.rl_source.specs.Asked.{noted, HasTreeCause, CountsFailed};
     ghost use Rattle.rl_source.specs.NodeMap.{kind_at, children_at, bytes_at};
     ghost use Rattle.rl_source.specs.Distinct.{Lists};
 
-    ghost told = { tells_nothing };
+    ghost told = { reveals_nothing };
 
     ghost fault_count = { λ t. t };
 
@@ -77,8 +79,8 @@ impl<'r> Tree for DiskTree<'r> {
     }
 
     fn kind(&mut self, path: &str) -> Result<Kind, TreeError>
-        ensures told { tells_nothing self.new ≡ after (noted CallName.Kind path.now result) (tells_nothing self.old) }
-        ensures answer { IfOk result (λ found. IfSome (tells_nothing self.old)
+        ensures told { reveals_nothing self.new ≡ after (noted CallName.Kind path.now result) (reveals_nothing self.old) }
+        ensures answer { IfOk result (λ found. IfSome (reveals_nothing self.old)
             (λ t. kind_at t.nodes path.now ≡ Some found)) }
         ensures cause { HasTreeCause self.old self.new result }
         ensures counts { CountsFailed self.old self.new result }
@@ -88,8 +90,8 @@ impl<'r> Tree for DiskTree<'r> {
     }
 
     fn children(&mut self, path: &str) -> Result<Vec<Child>, TreeError>
-        ensures told { tells_nothing self.new ≡ after (noted CallName.Children path.now result) (tells_nothing self.old) }
-        ensures answer { IfOk result (λ found. IfSome (tells_nothing self.old)
+        ensures told { reveals_nothing self.new ≡ after (noted CallName.Children path.now result) (reveals_nothing self.old) }
+        ensures answer { IfOk result (λ found. IfSome (reveals_nothing self.old)
             (λ t. IsSomeAnd (children_at t.nodes path.now) (λ children. Lists children found.items))) }
         ensures cause { HasTreeCause self.old self.new result }
         ensures counts { CountsFailed self.old self.new result }
@@ -99,8 +101,8 @@ impl<'r> Tree for DiskTree<'r> {
     }
 
     fn read(&mut self, path: &str, at_most: usize) -> Result<Vec<u8>, TreeError>
-        ensures told { tells_nothing self.new ≡ after (noted CallName.Read path.now result) (tells_nothing self.old) }
-        ensures answer { IfOk result (λ bytes. IfSome (tells_nothing self.old)
+        ensures told { reveals_nothing self.new ≡ after (noted CallName.Read path.now result) (reveals_nothing self.old) }
+        ensures answer { IfOk result (λ bytes. IfSome (reveals_nothing self.old)
             (λ t. IsSomeAnd (bytes_at t.nodes path.now) (λ content. bytes.items ≡ take at_most content))) }
         ensures cause { HasTreeCause self.old self.new result }
         ensures counts { CountsFailed self.old self.new result }

@@ -43,7 +43,10 @@ fn names_twice(alloc: Global, held: &Held) -> Result<bool, OutOfMemory>
     }
 }
 
-/// Whether two nodes have the same path, or two children of one folder have the same name.
+/// Returns whether two nodes have the same path, or two children of one folder have the same name.
+///
+/// # Errors
+/// [`OutOfMemory`] if there is not enough memory.
 pub(crate) fn is_double(alloc: Global, nodes: &[Node]) -> Result<bool, OutOfMemory>
     ensures { IfOk result (λ found. found ≡ is_double nodes.now) }
 {

@@ -22,7 +22,7 @@
 //! tree.faults(); // 1
 //! ```
 //!
-//! Read `specs/Told.antt` and `specs/NodeMap.antt` first, then `specs/Asked.antt` and `specs/Faults.antt`, and for sinks
+//! Read `specs/Revealed.antt` and `specs/NodeMap.antt` first, then `specs/Asked.antt` and `specs/Faults.antt`, and for sinks
 //! `specs/Written.antt`.
 #![tactic(auto)]
 

@@ -16,11 +16,17 @@ use std::marker::Model;
 /// piece and the room that is left. No write allocates memory.
 #[derive(Drop)]
 pub struct MemSink {
+    /// The bytes written so far.
     bytes: Vec<u8>,
+    /// The maximum number of bytes that a write takes.
     step: usize,
+    /// The maximum number of bytes in total.
     room: usize,
+    /// The numbers, from 1, of the writes that were chosen to fail.
     failing: Vec<u64>,
+    /// The number of writes of nonempty pieces, at most 2^64 - 1.
     calls: u64,
+    /// The number of writes that failed, at most 2^64 - 1.
     faults: u64,
 }
 
@@ -40,8 +46,8 @@ impl Model for MemSink {
 }
 
 impl MemSink {
-    /// Creates an empty sink with room for `room` bytes, whose writes take at most `step` bytes. The writes with the
-    /// numbers in `failing` fail.
+    /// Returns an empty sink with room for `room` bytes, whose writes take at most `step` bytes each. `step` must not be 0.
+    /// The writes of nonempty pieces with the numbers in `failing`, counted from 1, fail.
     ///
     /// # Errors
     /// [`OutOfMemory`] if there is no memory for the room.

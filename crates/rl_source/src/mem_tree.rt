@@ -1,6 +1,8 @@
-//! A tree in memory, whose calls can be made to fail.
+//! A tree of files in memory, whose calls can be made to fail. The map of a tree of files is the list of its nodes, which are
+//! paths with what is there. The trail is the list of the calls on the tree so far, in order, except those that ran out of
+//! memory.
 ghost use Rattle.std.specs.Prelude.{◌≡◌, [], true, false, take, Some, None, is_some, IfOk, IsSomeAnd, IsErr, IsErrOf, OnOk, OnErr, ◌∷◌, ◌++◌};
-ghost use Rattle.rl_source.specs.Told.{after};
+ghost use Rattle.rl_source.specs.Revealed.{after};
 ghost use Rattle.rl_source.specs.Distinct.{Lists, is_double};
 
 use crate::doubles::is_double;
@@ -32,14 +34,19 @@ impl From<OutOfMemory> for MemTreeError {
 
 /// A tree over a list of nodes. It reveals its map, which is that list, and its trail.
 ///
-/// All its calls are numbered from 1 by their place in the trail. A call fails if its number is one of those that were
-/// chosen to fail, or if the map has no answer for it. A call that returns [`TreeError::OutOfMemory`] isn't in the trail.
+/// Calls are numbered from 1 by their place in the trail. A call returns an error if its number is one of those that were
+/// chosen to fail, or if the map has no answer for it: [`TreeError::Failed`], unless memory runs out. A call that returns
+/// [`TreeError::OutOfMemory`] isn't in the trail.
 /// The tree is made for tests: each call searches the nodes from the first one on.
 #[derive(Drop)]
 pub struct MemTree {
+    /// The allocator of the answers and the trail.
     alloc: Global,
+    /// The map.
     nodes: Nodes,
+    /// The numbers of the calls that were chosen to fail.
     failing: Vec<u64>,
+    /// The calls so far, except those that ran out of memory.
     trail: Vec<Call>,
 }
 
@@ -59,10 +66,12 @@ impl MemTree {
     ghost use Rattle.rl_source.specs.MemTreeState.{MemTreeState, call_fails, after_call, failed_calls};
     ghost use Rattle.rl_source.specs.Asked.{call_of, noted, HasTreeCause};
 
-    /// Creates a tree of these nodes, with an empty trail. The calls with the numbers in `failing` fail.
+    /// Returns a tree of these nodes, with an empty trail. The calls with the numbers in `failing`, counted from 1,
+    /// return an error.
     ///
     /// # Errors
-    /// - [`MemTreeError::DoublePath`] if two nodes have the same path, or two children of one folder have the same name.
+    /// - [`MemTreeError::DoublePath`] only if two nodes have the same path, or two children of one folder have the same name,
+    ///   in which case there is never a result.
     /// - [`MemTreeError::OutOfMemory`] if there is not enough memory.
     pub fn new(alloc: Global, nodes: Nodes, failing: Vec<u64>) -> Result<MemTree, MemTreeError>
         ensures ok { IfOk result
@@ -120,11 +129,11 @@ impl MemTree {
 }
 
 impl Tree for MemTree {
-    ghost use Rattle.rl_source.specs.MemTreeState.{MemTreeState, FailsExactly, told_of, failed_calls, after_call};
+    ghost use Rattle.rl_source.specs.MemTreeState.{MemTreeState, FailsExactly, revealed_by, failed_calls, after_call};
     ghost use Rattle.rl_source.specs.Asked.{noted, HasTreeCause};
     ghost use Rattle.rl_source.specs.NodeMap.{kind_at, children_at, bytes_at};
 
-    ghost told = { λ t. Some (told_of t) };
+    ghost told = { λ t. Some (revealed_by t) };
 
     ghost fault_count = { failed_calls };
 
@@ -133,7 +142,7 @@ impl Tree for MemTree {
     }
 
     fn kind(&mut self, path: &str) -> Result<Kind, TreeError>
-        ensures told { Some (told_of self.new) ≡ after (noted CallName.Kind path.now result) (Some (told_of self.old)) }
+        ensures told { Some (revealed_by self.new) ≡ after (noted CallName.Kind path.now result) (Some (revealed_by self.old)) }
         ensures answer { IfOk result (λ found. kind_at self.old.nodes path.now ≡ Some found) }
         ensures cause { HasTreeCause (failed_calls self.old) (failed_calls self.new) result }
         ensures state { self.new ≡ after_call self.old (noted CallName.Kind path.now result) }
@@ -148,7 +157,7 @@ impl Tree for MemTree {
     }
 
     fn children(&mut self, path: &str) -> Result<Vec<Child>, TreeError>
-        ensures told { Some (told_of self.new) ≡ after (noted CallName.Children path.now result) (Some (told_of self.old)) }
+        ensures told { Some (revealed_by self.new) ≡ after (noted CallName.Children path.now result) (Some (revealed_by self.old)) }
         ensures answer { IfOk result (λ found.
             IsSomeAnd (children_at self.old.nodes path.now) (λ children. Lists children found.items)) }
         ensures cause { HasTreeCause (failed_calls self.old) (failed_calls self.new) result }
@@ -163,7 +172,7 @@ impl Tree for MemTree {
     }
 
     fn read(&mut self, path: &str, at_most: usize) -> Result<Vec<u8>, TreeError>
-        ensures told { Some (told_of self.new) ≡ after (noted CallName.Read path.now result) (Some (told_of self.old)) }
+        ensures told { Some (revealed_by self.new) ≡ after (noted CallName.Read path.now result) (Some (revealed_by self.old)) }
         ensures answer { IfOk result (λ bytes.
             IsSomeAnd (bytes_at self.old.nodes path.now) (λ content. bytes.items ≡ take at_most content)) }
         ensures cause { HasTreeCause (failed_calls self.old) (failed_calls self.new) result }

@@ -1,4 +1,5 @@
-//! Paths and names, what can be at a path, and the calls of a tree.
+//! Paths and names, what can be at a path, and the calls of a tree. The map of a tree of files is the list of its nodes, which
+//! are paths with what is there.
 ghost use Rattle.std.specs.Prelude.{◌≡◌, ℕ, List, IfOk, string_bytes};
 
 use rl_lists::{Items, OutOfMemory};
@@ -18,14 +19,14 @@ impl Model for Name {
 }
 
 impl Name {
-    /// Creates a name from a string.
+    /// Returns the name with this text. No memory is allocated.
     pub fn from_string(text: String) -> Name
         ensures { result ≡ string_bytes text }
     {
         Name { text }
     }
 
-    /// Creates a name from a copy of this text.
+    /// Returns the name with a copy of this text.
     ///
     /// # Errors
     /// [`OutOfMemory`] if there is no memory for the copy.
@@ -43,7 +44,7 @@ impl Name {
         self.text.as_str()
     }
 
-    /// Returns the text as a string of its own.
+    /// Turns the name into the string of its text. No memory is allocated.
     pub fn into_string(self) -> String
         ensures { string_bytes result ≡ self }
     {
@@ -63,15 +64,20 @@ impl Clone for Name {
 /// The kind of what is at a path: a file, a folder, or anything else, such as a symbolic link, a device or a pipe.
 #[derive(Clone, Copy, Debug, PartialEq, Eq)]
 pub enum Kind {
+    /// A file.
     File,
+    /// A folder.
     Folder,
+    /// Anything else.
     Other,
 }
 
 /// An entry of a folder.
 #[derive(Drop)]
 pub struct Child {
+    /// The name of the entry, without the folder's path.
     pub name: Name,
+    /// The kind of what is there.
     pub kind: Kind,
 }
 
@@ -93,21 +99,24 @@ pub type Content = Items<u8>;
 /// The entries of a folder.
 pub type Children = Items<Child>;
 
-/// The nodes of a tree.
+/// A list of nodes, such as the map of a tree.
 pub type Nodes = Items<Node>;
 
-/// What is at a path, with its contents.
+/// What is at a path.
 #[derive(Drop)]
 pub enum Held {
+    /// A file with its bytes.
     File(Content),
+    /// A folder with its entries.
     Folder(Children),
+    /// Anything else, such as a symbolic link.
     Other,
 }
 
 impl Held {
     ghost use Rattle.rl_source.specs.NodeMap.{kind_of};
 
-    /// Returns the kind.
+    /// Returns the kind of what is there.
     pub fn kind(&self) -> Kind
         ensures { result ≡ kind_of self.now }
     {
@@ -122,23 +131,30 @@ impl Held {
 /// A path, and what is there.
 #[derive(Drop)]
 pub struct Node {
+    /// The path.
     pub path: Name,
+    /// What is at the path.
     pub held: Held,
 }
 
 /// The three kinds of calls of a tree.
 #[derive(Clone, Copy)]
 pub enum CallName {
+    /// A query for the kind of what is at a path.
     Kind,
+    /// A query for the children of a folder.
     Children,
+    /// A query for the bytes of a file.
     Read,
 }
 
-/// A call that a tree has answered: its name, the path that it asked about, and whether it returned
-/// [`TreeError::Failed`](crate::TreeError::Failed).
+/// A call of a tree that returned `Ok` or [`TreeError::Failed`](crate::TreeError::Failed).
 #[derive(Drop)]
 pub struct Call {
+    /// Which function was called.
     pub name: CallName,
+    /// The path that it was called with.
     pub path: Name,
+    /// Whether it returned [`TreeError::Failed`](crate::TreeError::Failed).
     pub failed: bool,
 }

@@ -8,11 +8,11 @@ ghost use Rattle.rl_source.specs.Written.{GainsLess};
 #[derive(Clone, Copy, Debug, PartialEq, Eq)]
 pub struct SinkFailed;
 
-/// Something that bytes can be written to. It may reveal the bytes written so far to contracts.
+/// Something to which bytes can be written. It may reveal to contracts the bytes written so far.
 pub trait Sink {
     // The bytes written so far, if the sink reveals them.
     ghost bytes: { Self → Option (List ℕ) };
-    // The number of faults. It saturates at its largest value.
+    // The number of writes that failed, at most 2^64 - 1.
     ghost fault_count: { Self → ℕ };
 
     /// Returns the number of writes that failed so far, at most `u64::MAX`.
@@ -32,10 +32,11 @@ pub trait Sink {
         ensures cause { HasCause (fault_count self.old) (fault_count self.new) result };
 }
 
-/// Writes a whole text. Offers all of it first, and then whatever hasn't been taken yet, until everything is taken.
+/// Writes a whole text. Offers all of it first, and then whatever hasn't been taken yet, until everything is taken. Returns
+/// `Ok` then, and at once if the text is empty.
 ///
 /// # Errors
-/// [`SinkFailed`] if a write failed. The sink has received a proper prefix of the text then.
+/// [`SinkFailed`] if a write failed. In this case the sink has received only a proper prefix of the text, perhaps nothing.
 pub fn write_all<O: Sink>(out: &mut O, text: &[u8]) -> Result<(), SinkFailed>
     ensures ok { OnOk result (Appends (O.bytes out.old) (O.bytes out.new) text.now) }
     ensures err { OnErr result (GainsLess (O.bytes out.old) (O.bytes out.new) text.now) }

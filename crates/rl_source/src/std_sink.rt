@@ -13,7 +13,9 @@ use std::marker::Model;
 /// A sink over a writer such as standard output. It reveals to contracts what its writer reveals.
 #[derive(Drop)]
 pub struct StdSink<W: Write> {
+    /// The writer.
     writer: W,
+    /// The number of writes that failed, at most 2^64 - 1.
     faults: u64,
 }
 
@@ -24,7 +26,7 @@ impl<W: Write> Model for StdSink<W> {
 }
 
 impl<W: Write> StdSink<W> {
-    /// Creates a sink over this writer.
+    /// Returns a sink over this writer. Its fault count is 0.
     pub fn new(writer: W) -> StdSink<W>
         ensures { result ≡ record { writer = writer; faults = 0 } }
     {

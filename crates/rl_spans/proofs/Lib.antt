@@ -3,6 +3,8 @@ pub mod BelowLaws
 pub mod ItemLaws
 pub mod ShortLaws
 pub mod LongLaws
+pub mod BaseLaws
+pub mod DistinctLaws
 pub mod StateLaws
 pub mod TestLaws
 pub mod StepLaws

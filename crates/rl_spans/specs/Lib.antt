@@ -1,4 +1,5 @@
 pub mod Answers
+pub mod Causes
 pub mod Limits
 pub mod Sights
 pub mod internal

@@ -1,4 +1,4 @@
-pub mod Causes
+pub mod Among
 pub mod Codes
 pub mod Machines
 pub mod Hits

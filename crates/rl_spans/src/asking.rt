@@ -1,4 +1,4 @@
-//! The machine of two patterns that are asked alike.
+//! The machine that runs two patterns side by side, by how both are asked.
 
 ghost use Rattle.std.specs.Prelude.{◌≡◌, ◌++◌, IfErr, IfOk};
 ghost use Rattle.rl_ranges.specs.Text.{code_count};
@@ -23,7 +23,7 @@ use rl_marks::{How, MarkTree, MarkedPattern, ending_of, seeking};
 use rl_syntax::{MOST_NODES, Universe};
 use std::alloc::Global;
 
-/// From where a match is asked for.
+/// Returns from where matches are asked for: with `OneSearch` only from the start of the text, otherwise from each place.
 pub(crate) fn origin_of(how: How) -> Origin
     ensures { result ≡ origin_in how }
 {
@@ -33,7 +33,8 @@ pub(crate) fn origin_of(how: How) -> Origin
     }
 }
 
-/// The tree whose matches are looked at.
+/// Returns the tree that is run for the pattern: a copy of its own tree, or with `OneSearch` the tree whose match from the
+/// start of a text is a search.
 fn asked_tree(
     alloc: Global,
     how: How,
@@ -49,10 +50,10 @@ fn asked_tree(
     }
 }
 
-/// The machine of two patterns over one universe that are asked alike.
+/// Returns the machine of two patterns over one universe that are both asked as `how` says.
 ///
 /// # Errors
-/// [`SpansError::Size`], [`SpansError::Letters`] or [`SpansError::Moves`] only for a limit that is passed,
+/// [`SpansError::Size`], [`SpansError::Letters`] or [`SpansError::Moves`] only for a limit that is exceeded,
 /// [`SpansError::OutOfMemory`] if there was no memory for it.
 pub(crate) fn machine_of(
     alloc: Global,

@@ -1,4 +1,5 @@
-//! Pairs whose places are named in the order of their first appearance, so that renamings of one another are the same.
+//! Pairs of thread lists whose places have names in the order of their first appearance: the first place has the name 0, the
+//! next other one the name 1, and so on. So pairs that are renamings of one another become the same pair.
 
 use crate::stepping::StepError;
 use rl_lists::{Items, OutOfMemory};
@@ -6,16 +7,16 @@ use rl_marks::GroupSpan;
 use rl_marks::threads::{Caps, Thread, ThreadPair};
 use std::alloc::Global;
 
-/// A pair with new names, and what each new name was.
+/// A pair with new names of its places, and the old name of each.
 #[derive(Drop)]
 pub(crate) struct Named {
     /// The pair.
     pub pair: ThreadPair,
-    /// The old names, by the new ones.
+    /// The old name of each new name: the item with index `n` is what the new name `n` was.
     pub names: Items<u32>,
 }
 
-/// The new name of a place.
+/// Returns the new name of the place with the old name `place`, and adds it to `names` if it has none yet.
 fn name_anew(names: &mut Items<u32>, place: u32) -> Result<u32, StepError> {
     let count = names.len();
     for index in 0..count {
@@ -27,7 +28,7 @@ fn name_anew(names: &mut Items<u32>, place: u32) -> Result<u32, StepError> {
     as_name(count)
 }
 
-/// The number as a name.
+/// Returns the number as a name, or [`StepError::Outside`] if it is 2^32 or more.
 fn as_name(index: usize) -> Result<u32, StepError> {
     match u32::try_from(index) {
         Ok(name) => Ok(name),
@@ -35,7 +36,7 @@ fn as_name(index: usize) -> Result<u32, StepError> {
     }
 }
 
-/// What is known of groups, with new names.
+/// Returns what is known of groups, with new names of the places. Places without a new name get the next ones.
 fn caps_anew(alloc: Global, names: &mut Items<u32>, caps: &Caps) -> Result<Caps, StepError> {
     let mut opens = Items::new(alloc);
     for place in caps.opens.as_slice() {
@@ -59,7 +60,7 @@ fn caps_anew(alloc: Global, names: &mut Items<u32>, caps: &Caps) -> Result<Caps,
     })
 }
 
-/// The threads, with new names.
+/// Returns the threads, with new names of the places. Places without a new name get the next ones.
 fn threads_anew(
     alloc: Global,
     names: &mut Items<u32>,
@@ -76,7 +77,8 @@ fn threads_anew(
     Ok(list)
 }
 
-/// The pair of two lists of threads, with new names.
+/// Returns the pair of two lists of threads with new names of the places, and its old names. `agree` and `before` are handed
+/// on as they are.
 pub(crate) fn named_anew(
     alloc: Global,
     left: &[Thread],
@@ -96,7 +98,7 @@ pub(crate) fn named_anew(
     Ok(Named { pair, names })
 }
 
-/// Adds what is known of groups to a key.
+/// Appends numbers to a key from which all that is known of the groups can be read back.
 fn add_caps(key: &mut Vec<u32>, caps: &Caps) -> Result<(), OutOfMemory> {
     key.push(option_key(caps.last))?;
     key.push(length_key(caps.opens.len()))?;
@@ -112,7 +114,7 @@ fn add_caps(key: &mut Vec<u32>, caps: &Caps) -> Result<(), OutOfMemory> {
     Ok(())
 }
 
-/// A number for an option.
+/// Returns 0 for `None`, and one more than the number otherwise; the greatest `u32` has the number of the one before it.
 fn option_key(value: Option<u32>) -> u32 {
     match value {
         None => 0,
@@ -120,12 +122,12 @@ fn option_key(value: Option<u32>) -> u32 {
     }
 }
 
-/// A number for a length.
+/// Returns the length as a number; each length from 2^32 on has the greatest `u32`.
 fn length_key(length: usize) -> u32 {
     u32::try_from(length).unwrap_or(u32::MAX)
 }
 
-/// Adds threads to a key.
+/// Appends the length of a list of threads to a key, and then each thread.
 fn add_threads(key: &mut Vec<u32>, threads: &[Thread]) -> Result<(), OutOfMemory> {
     key.push(length_key(threads.len()))?;
     for thread in threads {
@@ -135,7 +137,8 @@ fn add_threads(key: &mut Vec<u32>, threads: &[Thread]) -> Result<(), OutOfMemory
     Ok(())
 }
 
-/// The key of a pair. Pairs with the same names have one key only if they are the same.
+/// Returns the key of a pair, a list of numbers. Two pairs have the same key only if they are the same, as long as no number
+/// or length in them comes near 2^32.
 pub(crate) fn key_of(alloc: Global, pair: &ThreadPair) -> Result<Vec<u32>, OutOfMemory> {
     let mut key = Vec::new(alloc);
     key.push(if pair.agree { 1 } else { 0 })?;

@@ -1,4 +1,4 @@
-//! What is known of groups on a way through a tree.
+//! What is known of groups on a way through a tree, and how it changes.
 
 ghost use Rattle.std.specs.Prelude.{◌≡◌, ◌∷◌, IfOk};
 ghost use Rattle.rl_marks.specs.internal.Caps.{put, opened, closed_at};
@@ -9,10 +9,10 @@ use rl_marks::GroupSpan;
 use rl_marks::threads::{Act, Caps};
 use std::alloc::Global;
 
-/// Spans by rising numbers with one more, in place of the one of the same number.
+/// Returns the spans, which are by rising numbers of their groups, with one more; it replaces the span of the same group.
 ///
 /// # Errors
-/// [`OutOfMemory`] where there was no memory.
+/// [`OutOfMemory`] if there was no memory for the list.
 pub(crate) fn with_span(
     alloc: Global,
     held: &[GroupSpan],
@@ -39,7 +39,7 @@ pub(crate) fn with_span(
     Ok(list)
 }
 
-/// The list with one more item in front.
+/// Returns the list with one more item in front.
 pub(crate) fn in_front(alloc: Global, item: u32, items: &[u32]) -> Result<Items<u32>, OutOfMemory>
     ensures { IfOk result (λ l. l ≡ item ∷ items.now) }
 {
@@ -51,7 +51,7 @@ pub(crate) fn in_front(alloc: Global, item: u32, items: &[u32]) -> Result<Items<
     Ok(list)
 }
 
-/// A copy.
+/// Returns a copy of what is known of groups.
 pub(crate) fn copy_of(alloc: Global, caps: &Caps) -> Result<Caps, OutOfMemory>
     ensures { IfOk result (λ c. c ≡ caps.now) }
 {
@@ -64,7 +64,7 @@ pub(crate) fn copy_of(alloc: Global, caps: &Caps) -> Result<Caps, OutOfMemory>
     })
 }
 
-/// Once a group is opened at a place.
+/// Returns what is known of groups once one more is opened at the place.
 pub(crate) fn after_open(alloc: Global, place: u32, caps: &Caps) -> Result<Caps, OutOfMemory>
     ensures { IfOk result (λ c. c ≡ opened place caps.now) }
 {
@@ -77,7 +77,8 @@ pub(crate) fn after_open(alloc: Global, place: u32, caps: &Caps) -> Result<Caps,
     })
 }
 
-/// Once the innermost open group, which has the number, is closed at a place.
+/// Returns what is known of groups once the innermost open group, which has the number, is closed at the place. If no group is
+/// open, nothing changes.
 pub(crate) fn after_close(
     alloc: Global,
     number: u32,
@@ -103,7 +104,8 @@ pub(crate) fn after_close(
     })
 }
 
-/// Once the acts are done at a place.
+/// Returns what is known of groups once the acts are done at the place, in order. Guards change nothing and aren't tested
+/// here.
 pub(crate) fn after_acts(
     alloc: Global,
     acts: &[Act],

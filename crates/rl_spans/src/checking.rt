@@ -1,4 +1,5 @@
-//! Whether a relation is closed.
+//! Whether a relation is closed. A relation is a list of pairs of thread lists with the step of each pair on each letter. A
+//! pair is kept if each of its steps is right and leads to a pair of the list, and if both sides agree wherever a match ends.
 
 ghost use Rattle.std.specs.Prelude.{◌≡◌, ◌<◌, ◌||◌, ℕ, Bool, true, false, Option, Some, None, IfErr, IfOk, IsTrue, List, length, slice_index_or, Contains, ◌∷◌, []};
 ghost use Rattle.rl_marks.specs.Hits.{Matcher};
@@ -25,7 +26,8 @@ use rl_marks::threads::{Caps, Origin, Thread, ThreadPair};
 use rl_marks::{How, MarkedPattern, MatchEnding};
 use std::alloc::Global;
 
-/// Whether both sides agree at the end of the text.
+/// Returns whether both sides of a pair have found the same if the text ends here. `accepts` says whether a match may end
+/// here, and `before` is the code before with what guards see of it.
 pub(crate) fn keeps_end(
     alloc: Global,
     machine: &Machine,
@@ -61,7 +63,8 @@ pub(crate) fn keeps_end(
     Ok(agree(pair.agree, &left, &right))
 }
 
-/// Whether both sides agree behind a line feed that is the last code.
+/// Returns whether both sides of a pair have found the same if one line feed follows and the text ends behind it. `accepts`
+/// says whether a match may end before the line feed.
 pub(crate) fn keeps_last(
     alloc: Global,
     machine: &Machine,
@@ -92,7 +95,8 @@ pub(crate) fn keeps_last(
     keeps_end(alloc, machine, true, line_feed, &behind)
 }
 
-/// Whether a last line feed isn't like any other code to one of both sides.
+/// Returns whether a line feed that is the last code isn't like any other code to at least one side, since its matches may end
+/// before it.
 pub(crate) fn tells_last_apart(machine: &Machine) -> bool
     ensures { result ≡ (tells_last machine.now.first.ending || tells_last machine.now.second.ending) }
 {
@@ -100,7 +104,7 @@ pub(crate) fn tells_last_apart(machine: &Machine) -> bool
         || machine.second.ending == MatchEnding::AtLastLine
 }
 
-/// Whether each move of a row is the step of the pair on its letter.
+/// Returns whether the row has one move for each letter of the machine, and each is the step of the pair on its letter.
 fn are_moves(
     alloc: Global,
     machine: &Machine,
@@ -138,7 +142,8 @@ fn are_moves(
     Ok(true)
 }
 
-/// Whether the pairs keep a pair, whose row of moves this is.
+/// Returns whether a pair is kept, with the row of its moves: each move is the pair's step on its letter and leads to one of
+/// `pairs`, and both sides agree if the text ends here. `accepts` says whether a match may end here.
 fn keeps(
     alloc: Global,
     machine: &Machine,
@@ -161,7 +166,7 @@ fn keeps(
     are_moves(alloc, machine, pairs, accepts, before, pair, row)
 }
 
-/// The pair at which a match begins.
+/// Returns the pair at which a match begins behind the code `before`, or at the start of a text.
 pub(crate) fn begin_pair(alloc: Global, before: Option<u32>) -> Result<ThreadPair, OutOfMemory>
     ensures { IfOk result (λ p. p ≡ begin before) }
 {
@@ -175,7 +180,7 @@ pub(crate) fn begin_pair(alloc: Global, before: Option<u32>) -> Result<ThreadPai
     })
 }
 
-/// The threads at which a match begins.
+/// Returns the list of threads at which a match begins: one in the state 0, with nothing known of groups.
 pub(crate) fn begin_threads(alloc: Global) -> Result<Items<Thread>, OutOfMemory>
     ensures { IfOk result (λ l. l ≡ thread 0 no_caps ∷ []) }
 {
@@ -191,7 +196,8 @@ pub(crate) fn begin_threads(alloc: Global) -> Result<Items<Thread>, OutOfMemory>
     Ok(list)
 }
 
-/// Whether the pairs keep the pair at which a match begins behind a code, or behind none, if it may be empty and if it may not.
+/// Returns whether the pair is kept at which a match begins behind the code `before`, or at the start of a text. `empty` is
+/// the row of its moves if the match may be empty, and `further` if it may not; both have to be right.
 fn keeps_begin(
     alloc: Global,
     machine: &Machine,
@@ -211,7 +217,8 @@ fn keeps_begin(
     keeps(alloc, machine, pairs, false, &pair, further)
 }
 
-/// Whether the pairs keep the pair at which a match that may be empty begins at the start of a text.
+/// Returns whether the pair is kept at which a match that may be empty begins at the start of a text. `empty` is the row of
+/// its moves.
 fn keeps_start(
     alloc: Global,
     machine: &Machine,
@@ -226,7 +233,8 @@ fn keeps_start(
     keeps(alloc, machine, pairs, true, &pair, empty)
 }
 
-/// Whether the pairs keep the pairs at which a match begins behind each code of the machine.
+/// Returns whether each pair is kept at which a match begins behind a code of the machine. `rows` has two rows for each code
+/// in turn: if the match may be empty, and if it may not.
 fn keeps_begins(
     alloc: Global,
     machine: &Machine,
@@ -251,7 +259,7 @@ fn keeps_begins(
     Ok(true)
 }
 
-/// Whether the pairs keep each of their own, whose rows of moves these are.
+/// Returns whether each of `pairs` is kept. `rows` has the row of moves of each, in the same order.
 fn keeps_all(
     alloc: Global,
     machine: &Machine,
@@ -273,7 +281,8 @@ fn keeps_all(
     Ok(true)
 }
 
-/// Whether the pairs keep the pairs at which a match begins anywhere in a text.
+/// Returns whether each pair is kept at which a match begins, at the start of a text or behind a code of the machine. `rows`
+/// has two rows for the start and then two for each code.
 fn keeps_each_begin(
     alloc: Global,
     machine: &Machine,
@@ -297,7 +306,8 @@ fn keeps_each_begin(
     Ok(kept)
 }
 
-/// Whether the pairs keep the pair at which a match begins at the start of a text.
+/// Returns whether the pair is kept at which a match that may be empty begins at the start of a text. The first of `rows` is
+/// its row.
 fn keeps_first_begin(
     alloc: Global,
     machine: &Machine,
@@ -314,7 +324,8 @@ fn keeps_first_begin(
     keeps_start(alloc, machine, pairs, empty)
 }
 
-/// Whether a relation is closed, for matches that begin at the origin.
+/// Returns whether the relation keeps each of its pairs, and each pair at which a match begins that is asked for from the
+/// origin.
 pub(crate) fn is_closed(
     alloc: Global,
     machine: &Machine,
@@ -341,12 +352,14 @@ pub(crate) fn is_closed(
     }
 }
 
-/// Whether a relation is closed, which shows that two patterns over one universe find the same spans and groups in every text, by
-/// how they are asked. It is closed if it holds the step of each of its pairs on each letter, and of the pairs at which a match
-/// begins, and if both sides agree at the end of the text.
+/// Returns whether the patterns are over one universe and the relation is closed for them. A closed relation shows that they
+/// find the same spans and groups in every text of the universe, if both are asked as `how` says. It holds the step of each of
+/// its pairs on each letter, and of each pair at which a match begins, and both sides agree wherever a text may end.
+///
+/// If the result is true, the universes are the same and the patterns find the same. If it is false, nothing is known.
 ///
 /// # Errors
-/// [`SpansError::Size`], [`SpansError::Letters`] or [`SpansError::Moves`] only for a limit that is passed,
+/// [`SpansError::Size`], [`SpansError::Letters`] or [`SpansError::Moves`] only for a limit that is exceeded,
 /// [`SpansError::OutOfMemory`] if there was no memory for the check.
 pub fn check(
     alloc: Global,
@@ -356,6 +369,7 @@ pub fn check(
     relation: &SpanRelation,
 ) -> Result<bool, SpansError>
     ensures alike { IfOk result (λ ok. IsTrue ok → FindAlike how a.now b.now) }
+    ensures universe { IfOk result (λ ok. IsTrue ok → a.now.universe ≡ b.now.universe) }
     ensures causes { IfErr result (IsCause how a.now b.now) }
 {
     if a.universe != b.universe {

@@ -1,4 +1,5 @@
-//! Codes that stand for the letters of two trees.
+//! One code for each letter of two trees. Two codes are one letter if each set of either tree, and each set that a guard of
+//! either names, holds both or neither of them.
 
 ghost use Rattle.std.specs.Prelude.{◌≡◌, ◌++◌, ◌<◌, ℕ, All, map, true, IfErr, IfOk, length, slice_index_or};
 ghost use Rattle.rl_ranges.specs.Codes.{has, IsInside};
@@ -19,7 +20,7 @@ use rl_ranges::{CodeSet, Letters, LettersError};
 use rl_syntax::Universe;
 use std::alloc::Global;
 
-/// The sets that tell the codes of two trees apart.
+/// Returns the sets that tell the codes of two trees apart: those of the trees, and those that their guards name.
 fn sets_of(alloc: Global, first: &MarkTree, second: &MarkTree) -> Result<Vec<CodeSet>, OutOfMemory>
     ensures sets { IfOk result
         (λ sets. map has sets.items ≡ all_sets (plain (marked_of first.now)) ++ all_sets (plain (marked_of second.now))) }
@@ -34,7 +35,7 @@ fn sets_of(alloc: Global, first: &MarkTree, second: &MarkTree) -> Result<Vec<Cod
     Ok(sets)
 }
 
-/// The codes that stand for letters.
+/// Returns the sample code of each letter, in the order of the letters.
 fn samples_of(alloc: Global, letters: &Letters) -> Result<Items<u32>, OutOfMemory>
     ensures { IfOk result (λ codes. codes ≡ letters.now.samples) }
 {
@@ -45,7 +46,7 @@ fn samples_of(alloc: Global, letters: &Letters) -> Result<Items<u32>, OutOfMemor
     Ok(codes)
 }
 
-/// A code for each letter that two trees tell apart.
+/// Returns one code of each letter of two trees over one universe.
 ///
 /// # Errors
 /// [`LettersError::TooMany`] only if there are more than [`MOST_LETTERS`](rl_ranges::MOST_LETTERS),

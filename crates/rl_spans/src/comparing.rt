@@ -1,11 +1,12 @@
 //! Whether two patterns find the same spans and groups.
 
-ghost use Rattle.std.specs.Prelude.{◌≡◌, ◌<◌, ◌≤◌, ◌↔◌, All, IsTrue, IfErr, IfOk, length};
+ghost use Rattle.std.specs.Prelude.{◌≡◌, ◌≢◌, ◌<◌, ◌≤◌, ◌↔◌, All, IsTrue, IfErr, IfOk, length};
 ghost use Rattle.rl_ranges.specs.Text.{IsText};
 ghost use Rattle.rl_marks.specs.SameFinds.{matcher_in};
 ghost use Rattle.rl_marks.specs.internal.Seeking.{asked_in, origin_in, IsFrom};
 ghost use Rattle.rl_spans.specs.Answers.{IsAnswer};
 ghost use Rattle.rl_spans.specs.Limits.{IsCause};
+ghost use Rattle.rl_spans.specs.declared.comparing.SameFinds.TheVariants.{Exceeded};
 ghost use Rattle.rl_spans.specs.internal.Machines.{IsMachine};
 ghost use Rattle.rl_spans.specs.internal.Sides.{matcher_of};
 
@@ -23,37 +24,39 @@ use rl_marks::{How, MarkedPattern};
 use rl_syntax::Universe;
 use std::alloc::Global;
 
-/// Whether two patterns find the same spans and groups.
+/// Whether two patterns find the same spans and groups, as the result of a search.
 #[derive(Drop)]
 pub enum SameFinds {
-    /// They do, as the relation shows.
+    /// They find the same in every text, as the relation shows.
     Same(SpanRelation),
-    /// They don't: on `text`, they find different matches from position `from` on. If `advance` is set, only matches that aren't
-    /// empty count.
+    /// They find different matches on `text`, which has fewer than 2^32 codes, from position `from` on. The position is
+    /// counted in codes from 0. If `advance` is set, only matches that aren't empty count.
     Differ {
         text: Codes,
         from: u32,
         advance: bool,
     },
-    /// It isn't known: the search reaches more pairs than the limit, the universes differ, or its result can't be confirmed.
+    /// Nothing is known: the search reaches more pairs than the limit or takes too much work, the universes differ, or its
+    /// result can't be confirmed.
     Exceeded,
 }
 
-/// Whether each code is below the count.
+/// Returns whether each code is below the count.
 fn are_below(codes: &[u32], count: u32) -> bool
     ensures { IsTrue result ↔ All (λ c. c < count) codes.now }
 {
     codes.iter().all(|code| *code < count)
 }
 
-/// Whether each code is one of the universe.
+/// Returns whether each code is one of the universe.
 fn is_text(universe: Universe, codes: &[u32]) -> bool
     ensures { IsTrue result → IsText universe codes.now }
 {
     are_below(codes, universe.count())
 }
 
-/// Whether a match may be asked for at a place; the flag says that it may not be empty.
+/// Returns whether matches that begin at position `start` are asked for from this origin. `advance` says that only matches
+/// that aren't empty count.
 fn is_from(origin: Origin, advance: bool, start: u32) -> bool
     ensures { IsTrue result → IsFrom origin advance start }
 {
@@ -63,7 +66,10 @@ fn is_from(origin: Origin, advance: bool, start: u32) -> bool
     }
 }
 
-/// The relation, if it shows that the patterns find alike.
+/// Returns [`SameFinds::Same`] with the relation if [`check`] accepts it, and [`SameFinds::Exceeded`] otherwise.
+///
+/// # Errors
+/// The same as those of [`check`].
 fn confirmed(
     alloc: Global,
     a: &MarkedPattern,
@@ -82,7 +88,11 @@ fn confirmed(
     }
 }
 
-/// The text and the place, if both sides are seen to find different matches there.
+/// Runs both sides on the text of the witness. Returns [`SameFinds::Differ`] if they find different matches there, and
+/// [`SameFinds::Exceeded`] otherwise, or if the text isn't one of the universe or its place isn't asked for.
+///
+/// # Errors
+/// [`SpansError::OutOfMemory`] if there was no memory for the runs.
 fn seen_apart(
     alloc: Global,
     machine: &Machine,
@@ -126,7 +136,8 @@ fn seen_apart(
 /// Returns whether two patterns find the same spans and groups in every text, if they are used as `how` says.
 ///
 /// The result is [`SameFinds::Exceeded`], which promises nothing, if the search reaches more than `limit` pairs of thread
-/// lists, if its result can't be confirmed, or if the patterns are over different universes.
+/// lists or takes too much work for this limit, if its result can't be confirmed, or if the patterns are over different
+/// universes. Every other result is about two patterns over one universe.
 ///
 /// # Errors
 /// [`SpansError::Size`], [`SpansError::Letters`] or [`SpansError::Moves`] only for a limit that is exceeded,
@@ -139,6 +150,7 @@ pub fn same_finds(
     limit: u32,
 ) -> Result<SameFinds, SpansError>
     ensures answer { IfOk result (IsAnswer how a.now b.now) }
+    ensures universe { IfOk result (λ s. s ≢ Exceeded → a.now.universe ≡ b.now.universe) }
     ensures causes { IfErr result (IsCause how a.now b.now) }
 {
     if a.universe != b.universe {

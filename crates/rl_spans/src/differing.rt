@@ -1,8 +1,8 @@
-//! Whether both sides are seen to find different matches.
+//! Whether both sides of a comparison find different matches on one text, which is seen by running both.
 
-ghost use Rattle.std.specs.Prelude.{◌≡◌, ◌≤◌, ℕ, IsTrue, IfOk, length};
+ghost use Rattle.std.specs.Prelude.{◌≡◌, ◌≤◌, ◌<◌, ◌^◌, ℕ, IsTrue, IfOk, length};
 ghost use Rattle.rl_marks.specs.Hits.{match_at, SameHit};
-ghost use Rattle.rl_marks.specs.internal.Caps.{held_span};
+ghost use Rattle.rl_marks.specs.internal.Caps.{span_of_group};
 ghost use Rattle.rl_marks.specs.internal.Runs.{LikeEnds, LikeEnded};
 ghost use Rattle.rl_spans.specs.internal.Hits.{ended_of, end_of};
 ghost use Rattle.rl_spans.specs.internal.Machines.{IsMachine};
@@ -14,9 +14,9 @@ use crate::stepping::StepError;
 use rl_marks::{GroupSpan, MOST_GROUPS};
 use std::alloc::Global;
 
-/// The span that is held of a group, if one is.
+/// Returns the span of the group with the number, as its two positions, or `None` if there is none in the list.
 pub(crate) fn span_held(held: &[GroupSpan], number: u32) -> Option<(u32, u32)>
-    ensures { result ≡ held_span number held.now }
+    ensures { result ≡ span_of_group number held.now }
 {
     for span in held {
         if number == span.number {
@@ -26,7 +26,7 @@ pub(crate) fn span_held(held: &[GroupSpan], number: u32) -> Option<(u32, u32)>
     None
 }
 
-/// Whether both are the same span, or none.
+/// Returns whether both are the same span, or both are `None`.
 fn is_same_span(span: Option<(u32, u32)>, other: Option<(u32, u32)>) -> bool
     ensures { span ≡ other → IsTrue result }
 {
@@ -37,9 +37,10 @@ fn is_same_span(span: Option<(u32, u32)>, other: Option<(u32, u32)>) -> bool
     }
 }
 
-/// Whether different spans are held of a group.
+/// Returns whether some group with a number up to [`MOST_GROUPS`] has different spans in the two lists, or a span in only one
+/// of them.
 fn holds_otherwise(held: &[GroupSpan], others: &[GroupSpan]) -> bool
-    ensures { IsTrue result → ¬ ((n : ℕ) → held_span n held.now ≡ held_span n others.now) }
+    ensures { IsTrue result → ¬ ((n : ℕ) → span_of_group n held.now ≡ span_of_group n others.now) }
 {
     for number in 0..=MOST_GROUPS {
         let span = span_held(held, number);
@@ -51,7 +52,7 @@ fn holds_otherwise(held: &[GroupSpan], others: &[GroupSpan]) -> bool
     false
 }
 
-/// Whether two ends differ: in their places, in the span of a group, or in the group that was closed last.
+/// Returns whether two matches differ: in their end, in the span of a group, or in the group that was closed last.
 fn are_ends_unlike(hit: &Hit, other: &Hit) -> bool
     ensures { IsTrue result → ¬ LikeEnds (end_of hit.now) (end_of other.now) }
 {
@@ -64,7 +65,7 @@ fn are_ends_unlike(hit: &Hit, other: &Hit) -> bool
     holds_otherwise(hit.caps.held.as_slice(), other.caps.held.as_slice())
 }
 
-/// Whether what two sides found differs.
+/// Returns whether what two sides found differs: two different matches, or a match of only one side.
 fn are_unlike(hit: &Option<Hit>, other: &Option<Hit>) -> bool
     ensures { IsTrue result → ¬ LikeEnded (ended_of hit.now) (ended_of other.now) }
 {
@@ -75,7 +76,12 @@ fn are_unlike(hit: &Option<Hit>, other: &Option<Hit>) -> bool
     }
 }
 
-/// Whether both sides are seen to find different matches on a text from a place on; the flag says that the match may not be empty.
+/// Returns whether both sides find different matches on the text, as matches that begin at position `start`, which is counted
+/// in codes from 0. `advance` says that only matches that aren't empty count. A text for which there is a result has fewer
+/// than 2^32 codes.
+///
+/// # Errors
+/// [`StepError::Outside`] if the text has 2^32 codes or more, [`StepError::OutOfMemory`] if there was no memory for the runs.
 pub(crate) fn is_difference(
     alloc: Global,
     machine: &Machine,
@@ -85,8 +91,9 @@ pub(crate) fn is_difference(
 ) -> Result<bool, StepError>
     requires machine { IsMachine machine.now }
     requires start { start ≤ length text.now }
-    ensures { IfOk result (λ differ. IsTrue differ
+    ensures differ { IfOk result (λ differ. IsTrue differ
         → ¬ SameHit (match_at (matcher_of machine.now.first) text.now advance start) (match_at (matcher_of machine.now.second) text.now advance start)) }
+    ensures short { IfOk result (λ _differ. length text.now < 2 ^ 32) }
 {
     let codes = machine.codes.as_slice();
     let left = found_from(

@@ -1,4 +1,4 @@
-//! Why two patterns aren't compared.
+//! Why a comparison of two patterns, or a run of one pattern, ends without a result.
 
 ghost use Rattle.std.specs.Prelude.{◌≡◌};
 
@@ -6,16 +6,18 @@ use crate::items::ListError;
 use rl_lists::OutOfMemory;
 use rl_ranges::LettersError;
 
-/// Why two patterns aren't compared, or a pattern isn't run.
+/// Why a comparison of two patterns, or a run of one pattern on a text, ends without a result.
 #[derive(Clone, Copy, Debug, PartialEq, Eq)]
 pub enum SpansError {
-    /// One of the trees has more than [`MOST_NODES`](rl_syntax::MOST_NODES) nodes. For one search a tree has four nodes more.
+    /// One of the trees that are run has more than [`MOST_NODES`](rl_syntax::MOST_NODES) nodes. For `OneSearch` a tree has
+    /// four nodes more than the pattern's own.
     Size,
-    /// The sets of both trees tell more letters apart than [`MOST_LETTERS`](rl_ranges::MOST_LETTERS).
+    /// Both trees together have more letters than [`MOST_LETTERS`](rl_ranges::MOST_LETTERS).
     Letters,
-    /// A list of items of one of the trees has more than [`MOST_MOVES`](rl_syntax::MOST_MOVES).
+    /// At a point of one of the trees more than [`MOST_MOVES`](rl_syntax::MOST_MOVES) items are tried, tests and ends of the
+    /// tree.
     Moves,
-    /// The text has 2^32 codes or more.
+    /// The text has 2^32 codes or more. No comparison ends with this error.
     Text,
     /// Out of memory.
     OutOfMemory,
@@ -32,7 +34,7 @@ impl From<OutOfMemory> for SpansError {
 }
 
 impl From<LettersError> for SpansError {
-    ghost use Rattle.rl_spans.specs.internal.Causes.{letters_error};
+    ghost use Rattle.rl_spans.specs.Causes.{letters_error};
 
     ghost from_gives = { λ l e. e ≡ letters_error l };
 
@@ -45,7 +47,7 @@ impl From<LettersError> for SpansError {
 }
 
 impl From<ListError> for SpansError {
-    ghost use Rattle.rl_spans.specs.internal.Causes.{list_error};
+    ghost use Rattle.rl_spans.specs.Causes.{list_error};
 
     ghost from_gives = { λ l e. e ≡ list_error l };
 

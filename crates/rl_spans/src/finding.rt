@@ -4,7 +4,7 @@ ghost use Rattle.std.specs.Prelude.{◌≡◌, ◌≤◌, ◌^◌, ℕ, [], IfEr
 ghost use Rattle.rl_ranges.specs.Codes.{has};
 ghost use Rattle.rl_syntax.specs.Guards.{is_word};
 ghost use Rattle.rl_marks.specs.SameFinds.{matcher_in};
-ghost use Rattle.rl_marks.specs.internal.Caps.{held_span};
+ghost use Rattle.rl_marks.specs.internal.Caps.{span_of_group};
 ghost use Rattle.rl_marks.specs.Marked.{marked_of};
 ghost use Rattle.rl_spans.specs.declared.items.ListError.TheVariants as list;
 ghost use Rattle.rl_spans.specs.declared.stepping.StepError.TheVariants as error;
@@ -25,20 +25,20 @@ use rl_lists::{Items, OutOfMemory};
 use rl_marks::{GroupSpan, How, MarkedPattern, ending_of};
 use std::alloc::Global;
 
-/// What a pattern finds on a text.
+/// A match that a pattern finds on a text. Positions are counted in codes from 0.
 #[derive(Drop)]
 pub struct Sight {
     /// Where the match begins.
     pub start: u32,
     /// Where it ends.
     pub end: u32,
-    /// The value of each group, by rising numbers from 1 on.
+    /// The value of each group, by rising numbers from 1 on: its last span, or `None`.
     pub groups: Items<Option<(u32, u32)>>,
-    /// The number of the group that was closed last, if one was.
+    /// The number of the group that was closed last, or `None` if no group was closed.
     pub last: Option<u32>,
 }
 
-/// The spans that are held of the groups up to a number.
+/// Returns the spans in `held` of the groups 1 to `count`, in this order; `None` for a group that has none there.
 fn values_held(
     alloc: Global,
     held: &[GroupSpan],
@@ -54,7 +54,7 @@ fn values_held(
     Ok(values)
 }
 
-/// A hit of a match that begins at a place, if there is one, with the spans of so many groups.
+/// Returns the hit, if there is one, as a match that begins at position `start`, with the values of the groups 1 to `count`.
 fn sight_held(
     alloc: Global,
     hit: &Option<Hit>,
@@ -77,7 +77,8 @@ fn sight_held(
     }
 }
 
-/// What a side finds from a place on, with the values of so many groups; the flag says that the match may not be empty.
+/// Returns the match that a side finds from position `start` on, with the values of the groups 1 to `count`, or `None`.
+/// `advance` says that only matches that aren't empty count.
 fn sight_at(
     alloc: Global,
     side: &Side,
@@ -100,7 +101,8 @@ fn sight_at(
     Ok(sight)
 }
 
-/// What a search with a side finds from the start of a text on, with the values of so many groups.
+/// Returns the first match that a search with a side finds from the start of the text, with the values of the groups 1 to
+/// `count`.
 fn sight_sought(
     alloc: Global,
     side: &Side,
@@ -125,7 +127,8 @@ fn sight_sought(
     Ok(last)
 }
 
-/// What a side finds, by how it is asked, with the values of so many groups.
+/// Returns what a side finds, with the values of the groups 1 to `count`: with `OneSearch` by a search from the text's start,
+/// and otherwise as a match from position `from` on.
 fn sight_by(
     alloc: Global,
     side: &Side,
@@ -149,7 +152,7 @@ fn sight_by(
     }
 }
 
-/// The side of a pattern alone.
+/// Returns the side of a pattern that is run alone, without codes of letters.
 fn side_alone(alloc: Global, pattern: &MarkedPattern, how: How) -> Result<Side, ListError>
     ensures side { IfOk result (IsSide []) }
     ensures matcher { IfOk result (λ side. matcher_of side ≡ matcher_in how pattern.now) }
@@ -159,8 +162,9 @@ fn side_alone(alloc: Global, pattern: &MarkedPattern, how: How) -> Result<Side, 
     Side::new(alloc, tree, ending_of(how, pattern.trailing), &[])
 }
 
-/// What a pattern finds on a text, with the values of its groups: by one search from the text's start if it is asked so, and else
-/// from the place on; the flag says that the match may not be empty then.
+/// Returns what a pattern finds on a text, with the values of its groups, or `None`. With `OneSearch` it is the first match of
+/// a search from the text's start, whatever `advance` and `from` are. Otherwise it is the match that begins at position
+/// `from`, and `advance` says that only matches that aren't empty count.
 ///
 /// # Errors
 /// [`SpansError::Moves`] only if too many items are tried in the tree, [`SpansError::Text`] only if the text has 2^32 codes or

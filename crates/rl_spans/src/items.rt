@@ -1,4 +1,6 @@
-//! The items of trees with groups.
+//! The items of trees with groups: what a backtracking matcher tries next from a point of a tree, in order. An item is the
+//! test of a place or an end of the tree, behind acts: guards to be tested, and groups to be opened and closed. The places of
+//! a tree are its tests of a code, numbered from left to right.
 
 ghost use Rattle.std.specs.Prelude.{◌≡◌, ◌≤◌, ◌<◌, ◌+◌, ◌∷◌, ◌++◌, [], ℕ, suc, length, IfOk, IfErr, OnOk, slice_index_or};
 ghost use Rattle.rl_syntax.specs.Run.{one_more};
@@ -35,7 +37,7 @@ impl From<OutOfMemory> for ListError {
     }
 }
 
-/// The number of places of a tree.
+/// Returns the number of places of a tree.
 pub(crate) fn places_of(tree: &MarkTree) -> u32
     requires { places (marked_of tree.now) ≤ MOST_NODES }
     ensures { result ≡ places (marked_of tree.now) }
@@ -50,7 +52,7 @@ pub(crate) fn places_of(tree: &MarkTree) -> u32
     }
 }
 
-/// The acts of the one list and then those of the other.
+/// Returns the acts of the first list and then those of the second.
 fn acts_of_both(alloc: Global, acts: &[Act], others: &[Act]) -> Result<Items<Act>, OutOfMemory>
     ensures { IfOk result (λ l. l ≡ acts.now ++ others.now) }
 {
@@ -61,7 +63,7 @@ fn acts_of_both(alloc: Global, acts: &[Act], others: &[Act]) -> Result<Items<Act
     Ok(list)
 }
 
-/// The item with more acts in front.
+/// Returns the item with more acts in front of its own.
 fn prefixed_by(alloc: Global, acts: &[Act], item: &MarkItem) -> Result<MarkItem, OutOfMemory>
     ensures { IfOk result (λ m. m ≡ prefixed acts.now item.now) }
 {
@@ -77,7 +79,7 @@ fn prefixed_by(alloc: Global, acts: &[Act], item: &MarkItem) -> Result<MarkItem,
     }
 }
 
-/// Appends an item.
+/// Appends an item, if the list has room for it.
 ///
 /// # Errors
 /// [`ListError::TooLong`] if the list has [`MOST_MOVES`] items.
@@ -92,7 +94,11 @@ fn put(list: &mut Items<MarkItem>, item: MarkItem) -> Result<(), ListError>
     Ok(())
 }
 
-/// Appends items with more acts in front.
+/// Appends items, each with more acts in front of its own.
+///
+/// # Errors
+/// [`ListError::TooLong`] if the list would have more than [`MOST_MOVES`] items, [`ListError::OutOfMemory`] if there was no
+/// memory.
 fn add_prefixed(
     alloc: Global,
     list: &mut Items<MarkItem>,
@@ -109,7 +115,11 @@ fn add_prefixed(
     Ok(())
 }
 
-/// The items with each end replaced by further items, which get its acts in front.
+/// Returns the items with each end replaced by all of `others`, which get the acts of the end in front of their own.
+///
+/// # Errors
+/// [`ListError::TooLong`] if the list would have more than [`MOST_MOVES`] items, [`ListError::OutOfMemory`] if there was no
+/// memory.
 fn replaced_by(
     alloc: Global,
     items: &[MarkItem],
@@ -131,7 +141,7 @@ fn replaced_by(
     Ok(list)
 }
 
-/// The list of one item.
+/// Returns the list of one item.
 fn single(alloc: Global, item: MarkItem) -> Result<Items<MarkItem>, OutOfMemory>
     ensures { IfOk result (λ l. l ≡ item ∷ []) }
 {
@@ -140,7 +150,7 @@ fn single(alloc: Global, item: MarkItem) -> Result<Items<MarkItem>, OutOfMemory>
     Ok(list)
 }
 
-/// The list of the end behind one act.
+/// Returns the list of one item: the end behind one act.
 fn end_behind(alloc: Global, act: Act) -> Result<Items<MarkItem>, OutOfMemory>
     ensures { IfOk result (λ l. l ≡ MarkItem.Pass (act ∷ []) ∷ []) }
 {
@@ -148,7 +158,7 @@ fn end_behind(alloc: Global, act: Act) -> Result<Items<MarkItem>, OutOfMemory>
     single(alloc, MarkItem::Pass(acts))
 }
 
-/// Appends items.
+/// Appends copies of items. The errors are those of [`add_prefixed`].
 fn add_items(alloc: Global, list: &mut Items<MarkItem>, items: &[MarkItem]) -> Result<(), ListError>
     ensures added { OnOk result (list.new ≡ list.old ++ items.now) }
     ensures long { IfErr result (λ e. e ≡ error.TooLong → MOST_MOVES < length list.old + length items.now) }
@@ -156,7 +166,7 @@ fn add_items(alloc: Global, list: &mut Items<MarkItem>, items: &[MarkItem]) -> R
     add_prefixed(alloc, list, &[], items)
 }
 
-/// The items of the one list and then those of the other.
+/// Returns the items of the first list and then those of the second. The errors are those of [`add_prefixed`].
 fn items_of_both(
     alloc: Global,
     items: &[MarkItem],
@@ -171,7 +181,11 @@ fn items_of_both(
     Ok(list)
 }
 
-/// The items on entering a tree whose first place has the number `base`.
+/// Returns the items on entering a tree whose first place has the number `base`.
+///
+/// # Errors
+/// [`ListError::TooLong`] only if there are more than [`MOST_MOVES`] items on entering the tree or behind one of its places,
+/// [`ListError::OutOfMemory`] if there was no memory.
 pub(crate) fn first_of(
     alloc: Global,
     tree: &MarkTree,
@@ -225,7 +239,12 @@ pub(crate) fn first_of(
     }
 }
 
-/// The items once the place of a tree whose first place has the number `base` has succeeded.
+/// Returns the items behind the place with the number `place` of a tree whose first place has the number `base`: what is tried
+/// once the test of that place has succeeded.
+///
+/// # Errors
+/// [`ListError::TooLong`] only if there are more than [`MOST_MOVES`] items behind one of the places,
+/// [`ListError::OutOfMemory`] if there was no memory.
 pub(crate) fn after_of(
     alloc: Global,
     tree: &MarkTree,

@@ -1,4 +1,4 @@
-//! Both sides of a comparison.
+//! Both sides of a comparison, and their steps from pair to pair of their thread lists.
 
 ghost use Rattle.std.specs.Prelude.{◌≡◌, ◌<◌, ℕ, suc, true, false, Some, None, IfOk, IsTrue, length, slice_index_or};
 ghost use Rattle.rl_ranges.specs.Codes.{has};
@@ -31,24 +31,25 @@ pub(crate) struct Machine {
     pub first: Side,
     /// The second side.
     pub second: Side,
-    /// A code of each letter, and then the line feed.
+    /// One code of each letter of both trees.
     pub codes: Items<u32>,
-    /// The codes of words.
+    /// The word characters, which guards tell from other codes.
     pub words: Words,
 }
 
-/// What a pair of thread lists comes to.
+/// What a pair of thread lists comes to on a code.
 #[derive(Drop)]
 pub(crate) struct Steps {
-    /// The threads of the first side.
+    /// The threads of the first side behind the code.
     pub left: Items<Thread>,
-    /// The threads of the second side.
+    /// The threads of the second side behind the code.
     pub right: Items<Thread>,
-    /// Whether both found the same so far.
+    /// Whether what both sides found up to the place before the code is the same.
     pub agree: bool,
 }
 
-/// Whether ends count before the next code, if there is one, which is no last line feed.
+/// Returns whether a match with this ending may end at a place. `is_code` says that a code follows, which isn't a line feed at
+/// the text's end; otherwise the text ends there. `accepts` says that a match may end there at all.
 pub(crate) fn stops_before(accepts: bool, is_code: bool, ending: MatchEnding) -> bool
     ensures end { is_code ≡ false → result ≡ stops_at accepts None ending }
     ensures code { is_code ≡ true → (code : ℕ) → result ≡ stops_at accepts (Some code) ending }
@@ -56,14 +57,15 @@ pub(crate) fn stops_before(accepts: bool, is_code: bool, ending: MatchEnding) ->
     accepts && (!is_code || ending == MatchEnding::Anywhere)
 }
 
-/// Whether ends count before a line feed that is the last code.
+/// Returns whether a match with this ending may end before a line feed that is the last code, if `accepts` says that it may
+/// end there.
 pub(crate) fn stops_before_last(accepts: bool, ending: MatchEnding) -> bool
     ensures { result ≡ stops_last accepts ending }
 {
     accepts && ending != MatchEnding::AtEnd
 }
 
-/// Whether guards see the same of a code as of the other one, if there is one.
+/// Returns whether guards see the same of `code` as of `before`, which has to be a code.
 fn is_same_kind(words: &Words, code: u32, before: Option<u32>) -> bool
     requires all { (c : ℕ) → has words.now.all c ≡ is_word false c }
     requires ascii { (c : ℕ) → has words.now.ascii c ≡ is_word true c }
@@ -74,7 +76,7 @@ fn is_same_kind(words: &Words, code: u32, before: Option<u32>) -> bool
     are_seen_alike(shown, seen)
 }
 
-/// The code, if there is one, with what guards see of it.
+/// Returns the code, or none, with what guards see of it: without a code, of the start or the end of a text.
 pub(crate) fn seen(words: &Words, code: Option<u32>) -> Seen
     requires all { (c : ℕ) → has words.now.all c ≡ is_word false c }
     requires ascii { (c : ℕ) → has words.now.ascii c ≡ is_word true c }
@@ -85,7 +87,12 @@ pub(crate) fn seen(words: &Words, code: Option<u32>) -> Seen
     Seen { code, shown }
 }
 
-/// What both sides come to on a code.
+/// Returns what both sides of a pair come to on a code. `tests` says for each side which of its places take the code, and
+/// `stops` whether a match may end before it. `before` is the code before.
+///
+/// # Errors
+/// [`StepError::Outside`] if a thread is in no state of its side or a name is too great, [`StepError::OutOfMemory`] if there
+/// was no memory.
 pub(crate) fn steps_on(
     alloc: Global,
     machine: &Machine,
@@ -137,7 +144,8 @@ pub(crate) fn steps_on(
     })
 }
 
-/// Whether a pair is what both sides come to, but for the names of places.
+/// Returns whether the pair is what both sides have come to, with other names of the places: the name `n` of the pair stands
+/// for the place `names[n]`. The pair may say that both sides agree only if they do.
 fn is_named_by(names: &[u32], pair: &ThreadPair, steps: &Steps) -> bool
     ensures left { IsTrue result → named (place_named names.now) pair.now.left ≡ steps.now.left }
     ensures right { IsTrue result → named (place_named names.now) pair.now.right ≡ steps.now.right }
@@ -148,7 +156,8 @@ fn is_named_by(names: &[u32], pair: &ThreadPair, steps: &Steps) -> bool
         && are_threads_named(names, pair.right.as_slice(), steps.right.as_slice())
 }
 
-/// Whether the step of a pair on a letter is the move, and leads to one of the pairs.
+/// Returns whether the move `step` is the step of the pair on the letter with the index `letter`, and leads to one of `pairs`.
+/// `accepts` says whether a match may end at the place of the pair.
 pub(crate) fn is_move(
     alloc: Global,
     machine: &Machine,

@@ -9,10 +9,10 @@ use rl_marks::MarkTree;
 use rl_syntax::Re;
 use std::alloc::Global;
 
-/// The tree without its groups.
+/// Returns the tree without its groups. `Further`, which joins the rounds of a counted repeat, becomes `Both`.
 ///
 /// # Errors
-/// [`OutOfMemory`] where there was no memory for it.
+/// [`OutOfMemory`] if there was no memory for it.
 pub(crate) fn plain_of(alloc: Global, tree: &MarkTree) -> Result<Re, OutOfMemory>
     ensures { IfOk result (λ re. tree_of re ≡ plain (marked_of tree.now)) }
 {

@@ -1,4 +1,5 @@
-//! What one side finds on a text, by the list of its threads.
+//! What one side finds on a text, by stepping the list of its threads from code to code. Positions are counted in codes from
+//! 0.
 
 ghost use Rattle.std.specs.Prelude.{◌≡◌, ◌<◌, ◌≤◌, ◌∷◌, [], ◌^◌, ℕ, All, IfErr, IfOk, None, Some, length, slice_get, true, false};
 ghost use Rattle.rl_ranges.specs.Codes.{has};
@@ -24,16 +25,16 @@ use rl_marks::MatchEnding;
 use rl_marks::threads::{Caps, Thread, Try};
 use std::alloc::Global;
 
-/// What a side finds on a text.
+/// The end of a match that a side finds on a text.
 #[derive(Drop)]
 pub(crate) struct Hit {
-    /// Where it ends.
+    /// The position at which the match ends.
     pub end: u32,
     /// What is known of the groups there.
     pub caps: Caps,
 }
 
-/// Whether a match may end at a place of a text.
+/// Returns whether a match with this ending may end at a position of the text.
 #[tactic(auto, unfolding(rl_syntax::specs::Guards::is_in))]
 fn ends_at(ending: MatchEnding, text: &[u32], place: usize) -> bool
     requires { place ≤ length text.now }
@@ -49,7 +50,7 @@ fn ends_at(ending: MatchEnding, text: &[u32], place: usize) -> bool
     }
 }
 
-/// Whether a match from the start may end at a place of a text; the flag says that it may not be empty.
+/// Returns whether a match from position `start` may end at position `place`. `advance` says that it may not be empty.
 fn is_hit(ending: MatchEnding, advance: bool, text: &[u32], start: usize, place: usize) -> bool
     requires { place ≤ length text.now }
     ensures { result ≡ is_hit_from ending advance text.now start place }
@@ -57,7 +58,7 @@ fn is_hit(ending: MatchEnding, advance: bool, text: &[u32], start: usize, place:
     ends_at(ending, text, place) && (!advance || start < place)
 }
 
-/// The code before a place of a text, none at the start.
+/// Returns the code before a position of the text, or `None` at its start.
 fn code_before(text: &[u32], place: usize) -> Option<u32>
     requires { place ≤ length text.now }
     ensures { result ≡ before_place text.now place }
@@ -69,7 +70,7 @@ fn code_before(text: &[u32], place: usize) -> Option<u32>
     }
 }
 
-/// What the threads of a side try at a place.
+/// Returns what the threads of a side try at a position between the codes `before` and `next`, in order.
 fn tries_at_place(
     alloc: Global,
     side: &Side,
@@ -95,7 +96,7 @@ fn tries_at_place(
     )
 }
 
-/// What a side's threads come to on a code at a place.
+/// Returns what a side's threads come to on the code at a position. `accepts` says whether a match may end before the code.
 fn step_at(
     alloc: Global,
     side: &Side,
@@ -124,7 +125,7 @@ fn step_at(
     Ok(Step { stop, threads })
 }
 
-/// What the threads stop with at a place, or else what was found before.
+/// Returns the hit at this position if the threads stop there, and otherwise what was found before.
 fn later(place: u32, stop: Option<Caps>, found: Option<Hit>) -> Option<Hit>
     ensures { ended_of result ≡ later_of place stop (ended_of found) }
 {
@@ -137,7 +138,7 @@ fn later(place: u32, stop: Option<Caps>, found: Option<Hit>) -> Option<Hit>
     }
 }
 
-/// The place as a number of a thread list.
+/// Returns the position as a `u32`, or [`StepError::Outside`] if it is 2^32 or more.
 pub(crate) fn place_of(index: usize) -> Result<u32, StepError>
     ensures place { IfOk result (λ p. p ≡ index) }
     ensures great { IfErr result (λ _. 2 ^ 32 ≤ index) }
@@ -148,7 +149,7 @@ pub(crate) fn place_of(index: usize) -> Result<u32, StepError>
     }
 }
 
-/// The code at a place of a text.
+/// Returns the code at a position of the text.
 fn code_at(text: &[u32], index: usize) -> u32
     requires { index < length text.now }
     ensures { slice_get text.now index ≡ Some result }
@@ -156,7 +157,11 @@ fn code_at(text: &[u32], index: usize) -> u32
     text[index]
 }
 
-/// What a side finds on a text from a place on; the flag says that the match may not be empty.
+/// Returns the end of the match that a side finds on the text from position `start` on, or `None`. `advance` says that only
+/// matches that aren't empty count.
+///
+/// # Errors
+/// [`StepError::Outside`] only if the text has 2^32 codes or more, [`StepError::OutOfMemory`] if there was no memory.
 pub(crate) fn found_from(
     alloc: Global,
     side: &Side,
@@ -171,6 +176,7 @@ pub(crate) fn found_from(
     requires ascii { (c : ℕ) → has words.now.ascii c ≡ is_word true c }
     requires start { start ≤ length text.now }
     ensures found { IfOk result (λ hit. ended_of hit ≡ found_at side.now text.now advance start) }
+    ensures short { IfOk result (λ _hit. length text.now < 2 ^ 32) }
     ensures outside { IfErr result (λ e. e ≡ error.Outside → 2 ^ 32 ≤ length text.now) }
 {
     let size = text.len();

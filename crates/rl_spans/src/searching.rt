@@ -1,4 +1,5 @@
-//! The search for a closed relation, breadth first. Nothing hangs on it: what it hands over is checked, or run, afterwards.
+//! The search for a closed relation, breadth first. No promise rests on it: a relation that it finds is checked afterwards,
+//! and on a text that it finds both sides are run.
 
 ghost use Rattle.std.specs.Prelude.{◌<◌, length};
 ghost use Rattle.rl_spans.specs.internal.Machines.{IsMachine};
@@ -8,6 +9,7 @@ use crate::checking::{begin_pair, keeps_end, keeps_last, tells_last_apart};
 use crate::machine::{Machine, seen, steps_on, stops_before};
 use crate::relation::{Move, Row, SpanRelation};
 use crate::shown::are_seen_alike;
+use crate::side::Side;
 use crate::stepping::StepError;
 use crate::threads::copy_of_thread;
 use indexmap::IndexSet;
@@ -15,60 +17,63 @@ use rl_lists::{Codes, Items, OutOfMemory};
 use rl_marks::threads::{Origin, Thread, ThreadPair};
 use std::alloc::Global;
 
-/// How a pair was found.
+/// How much work the search does at most for each pair of its limit, as [`work_of`] counts it.
+const WORK_PER_PAIR: u64 = 8192;
+
+/// How a pair was found: from which pair, on which code, and where the match began.
 #[derive(Clone, Copy)]
 struct Way {
-    /// One more than the number of the pair before it; 0 if a match begins before it.
+    /// One more than the number of the pair before it; 0 if that is a pair at which a match begins.
     parent: u32,
-    /// The code that leads to it.
+    /// The code on which the pair before it leads to it.
     code: u32,
-    /// The code before the match begins, if there is one.
+    /// The code before the start of the match; `None` if the match begins at the start of the text.
     before: Option<u32>,
     /// Whether the match may not be empty.
     advance: bool,
 }
 
-/// A text on which both sides differ, and from where.
+/// A text on which both sides should find different matches, and from where.
 #[derive(Drop)]
 pub(crate) struct Witness {
     /// The text.
     pub text: Codes,
-    /// Where the match begins.
+    /// The position at which the match begins, counted in codes from 0.
     pub from: u32,
     /// Whether the match may not be empty.
     pub advance: bool,
 }
 
-/// What a search comes to.
+/// The result of the search.
 #[derive(Drop)]
 pub(crate) enum Searched {
-    /// A relation that should be closed.
+    /// A relation that should be closed. It holds each pair that was reached.
     Closed(SpanRelation),
-    /// A text on which both sides should differ.
+    /// A text on which both sides should find different matches.
     Differs(Witness),
-    /// More pairs than the limit are reached.
+    /// More pairs than the limit are reached, or they are too much work.
     Exceeded,
 }
 
-/// Where both sides of a pair part.
+/// At which end of the text both sides of a pair have found different things.
 #[derive(Clone, Copy, PartialEq, Eq)]
 enum Parting {
-    /// They agree.
+    /// Nowhere: they agree.
     Nowhere,
-    /// At the end of the text.
+    /// If the text ends here.
     End,
-    /// Behind a last line feed.
+    /// If the text ends behind one line feed more.
     LastLine,
 }
 
-/// The next pair on a letter, with the names of its places in the step.
+/// The pair to which a step leads, with the names of its places in the step, and the code of the step.
 #[derive(Drop)]
 struct Onward {
     named: Named,
     code: u32,
 }
 
-/// The pairs that are found.
+/// The pairs that were reached so far, each once, by their numbers: their keys, the pairs themselves, and how each was found.
 #[derive(Drop)]
 struct Search {
     keys: IndexSet<Vec<u32>>,
@@ -76,7 +81,7 @@ struct Search {
     ways: Items<Way>,
 }
 
-/// The first code of the machine of which guards see the same.
+/// Returns the first code of the machine of which guards see the same as of this one, or the code itself if there is none.
 fn kind_of(machine: &Machine, code: u32) -> u32
     requires { IsMachine machine.now }
 {
@@ -90,7 +95,8 @@ fn kind_of(machine: &Machine, code: u32) -> u32
     code
 }
 
-/// Where both sides of a pair part, if they do.
+/// Returns at which end of the text both sides of a pair have found different things. `accepts` says whether a match may end
+/// here.
 fn parting_of(
     alloc: Global,
     machine: &Machine,
@@ -109,7 +115,7 @@ fn parting_of(
     Ok(Parting::Nowhere)
 }
 
-/// The next pair of a pair on a letter.
+/// Returns the pair to which the step of a pair leads on the letter with this index.
 fn next_on(
     alloc: Global,
     machine: &Machine,
@@ -142,7 +148,7 @@ fn next_on(
     Ok(Onward { named, code })
 }
 
-/// The next pairs of a pair, letter by letter.
+/// Returns the pairs to which the steps of a pair lead, one for each letter in order.
 fn next_of(
     alloc: Global,
     machine: &Machine,
@@ -160,7 +166,7 @@ fn next_of(
     Ok(list)
 }
 
-/// Adds a pair, unless it is there, and answers its number.
+/// Adds a pair, unless it was reached before, and returns its number.
 fn add(search: &mut Search, alloc: Global, pair: ThreadPair, way: Way) -> Result<u32, StepError> {
     let key = key_of(alloc, &pair)?;
     let Ok((number, is_new)) = search.keys.insert_full(key) else {
@@ -176,7 +182,8 @@ fn add(search: &mut Search, alloc: Global, pair: ThreadPair, way: Way) -> Result
     }
 }
 
-/// Adds the next pairs of a pair, and answers its row of moves.
+/// Adds the pairs to which the steps of a pair lead, and returns the row of its moves. `parent`, `before` and `advance` are as
+/// in [`Way`].
 fn add_all(
     search: &mut Search,
     alloc: Global,
@@ -204,7 +211,8 @@ fn add_all(
     Ok(Row { moves })
 }
 
-/// The text that leads to a pair, and further to where both sides part; `way` is none at the beginning of a match.
+/// Returns the text that leads to a pair, from the code before the match on, with a line feed at its end if the sides part
+/// behind one. `way` is `None` for a pair at which a match begins.
 fn text_to(
     alloc: Global,
     ways: &[Way],
@@ -230,7 +238,7 @@ fn text_to(
     Ok(Items::from_vec(codes))
 }
 
-/// How the pair before was found, if there is one.
+/// Returns how the pair before was found; `None` if that is a pair at which a match begins.
 fn before_way(ways: &[Way], way: Way) -> Option<Way> {
     if way.parent == 0 {
         return None;
@@ -238,7 +246,8 @@ fn before_way(ways: &[Way], way: Way) -> Option<Way> {
     ways.get((way.parent - 1) as usize).copied()
 }
 
-/// The text on which both sides part.
+/// Returns the text on which both sides part as the result of the search. The match begins behind the code `before`, if there
+/// is one.
 fn witness_at(
     alloc: Global,
     ways: &[Way],
@@ -256,14 +265,14 @@ fn witness_at(
     }))
 }
 
-/// What comes of a pair: its row of moves, or where both sides part.
+/// What is found of a pair: the row of its moves if both sides agree, or otherwise where they part.
 #[derive(Drop)]
 enum Expanded {
     Moves(Row),
     Parts(Parting),
 }
 
-/// Looks at a pair, and adds its next pairs.
+/// Looks at a pair. If both sides agree, adds the pairs to which its steps lead.
 fn expand(
     search: &mut Search,
     alloc: Global,
@@ -285,7 +294,8 @@ fn expand(
     Ok(Expanded::Moves(row))
 }
 
-/// Where matches that are asked for begin.
+/// Returns the places at which matches that are asked for from the origin begin: the start of a text, and behind each code of
+/// the machine. From `TextStart` it is the start alone, with a match that may be empty.
 fn begins_of(
     alloc: Global,
     machine: &Machine,
@@ -316,14 +326,15 @@ fn begins_of(
     Ok(list)
 }
 
-/// Where a match begins: the code before, if there is one, and whether it may not be empty.
+/// Where a match begins: behind a code, or at the start of the text if `before` is `None`. `advance` says that it may not be
+/// empty.
 #[derive(Clone, Copy)]
 struct Begin {
     before: Option<u32>,
     advance: bool,
 }
 
-/// A copy of the pair with a number, and how it was found.
+/// Returns a copy of the pair with this number, and how it was found, or `None` if no pair has it.
 fn copy_at(
     alloc: Global,
     search: &Search,
@@ -346,7 +357,7 @@ fn copy_at(
     Ok(Some((copy, *way)))
 }
 
-/// A copy of threads.
+/// Returns a copy of a list of threads.
 fn copy_of_threads(alloc: Global, threads: &[Thread]) -> Result<Items<Thread>, OutOfMemory> {
     let mut list = Items::new(alloc);
     for thread in threads {
@@ -356,7 +367,7 @@ fn copy_of_threads(alloc: Global, threads: &[Thread]) -> Result<Items<Thread>, O
     Ok(list)
 }
 
-/// Looks at the pairs at which a match begins. Answers their rows, or the text on which both sides part.
+/// Looks at the pairs at which a match begins, in order. Returns their rows, or the text on which both sides of one part.
 fn begin_all(
     search: &mut Search,
     alloc: Global,
@@ -389,14 +400,40 @@ fn begin_all(
     Ok(Begun::Rows(rows))
 }
 
-/// The rows of the pairs at which a match begins, or what the search ends with.
+/// The rows of the pairs at which a match begins, or the result of the search if it ends with one of them.
 #[derive(Drop)]
 enum Begun {
     Rows(Items<Row>),
     Ends(Searched),
 }
 
-/// Searches for a closed relation: for the pairs that are reached from those at which a match begins, up to a limit.
+/// Returns how much work the step of a side on one letter is: the items of its threads, times the threads over 64 and one
+/// more, since the new threads are compared with one another. A number that is too great becomes the greatest one.
+fn side_work(side: &Side, threads: &[Thread]) -> u64 {
+    let mut items: u64 = 0;
+    for thread in threads {
+        if let Some(row) = side.rows.as_slice().get(thread.state as usize) {
+            items = items.saturating_add(row.len() as u64);
+        }
+    }
+    let rounds = (threads.len() as u64 / 64).saturating_add(1);
+    items.saturating_mul(rounds)
+}
+
+/// Returns how much work the steps of a pair are: the work of both sides on one letter, times the letters.
+fn work_of(machine: &Machine, pair: &ThreadPair) -> u64 {
+    let left = side_work(&machine.first, pair.left.as_slice());
+    let right = side_work(&machine.second, pair.right.as_slice());
+    let letters = machine.codes.len() as u64;
+    left.saturating_add(right).saturating_mul(letters)
+}
+
+/// Searches for a closed relation: for all pairs that are reached from those at which a match begins. The result is
+/// [`Searched::Exceeded`] if more than `limit` pairs are reached, or if
+/// the pairs are more work than [`WORK_PER_PAIR`] times the limit.
+///
+/// # Errors
+/// [`StepError::Outside`] if a name or a number doesn't fit into 32 bits, [`StepError::OutOfMemory`] if there was no memory.
 pub(crate) fn find_relation(
     alloc: Global,
     machine: &Machine,
@@ -416,6 +453,8 @@ pub(crate) fn find_relation(
         Begun::Ends(found) => return Ok(found),
     };
     let mut rows = Items::new(alloc);
+    let most = u64::from(limit).saturating_mul(WORK_PER_PAIR);
+    let mut work: u64 = 0;
     for number in 0..limit {
         let Some((pair, way)) = copy_at(alloc, &search, number as usize)? else {
             return Ok(Searched::Closed(SpanRelation {
@@ -424,7 +463,8 @@ pub(crate) fn find_relation(
                 begins,
             }));
         };
-        if search.pairs.len() > limit as usize {
+        work = work.saturating_add(work_of(machine, &pair));
+        if search.pairs.len() > limit as usize || work > most {
             return Ok(Searched::Exceeded);
         }
         let found = expand(

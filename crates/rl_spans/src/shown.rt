@@ -1,4 +1,4 @@
-//! What guards see of codes.
+//! What guards see of the codes beside a place. Anchors and word boundaries are guards.
 
 ghost use Rattle.std.specs.Prelude.{◌≡◌, ℕ, true, false, None, Some, IfOk, IsTrue};
 ghost use Rattle.rl_ranges.specs.Codes.{has};
@@ -9,20 +9,20 @@ use rl_lists::OutOfMemory;
 use rl_ranges::{CodeSet, Named, Universe};
 use std::alloc::Global;
 
-/// What guards see of a code, or of none.
+/// What guards see of a code, or of the start or the end of a text.
 #[derive(Clone, Copy)]
 pub(crate) struct Shown {
-    /// There is no code.
+    /// There is no code: the text starts or ends here. Then the other fields are false.
     pub none: bool,
     /// It is a line feed.
     pub line_feed: bool,
-    /// It is a code of words.
+    /// It is a word character.
     pub word: bool,
-    /// It is an ASCII code of words.
+    /// It is a word character of ASCII.
     pub ascii_word: bool,
 }
 
-/// The codes of words.
+/// The word characters: all of them, and those of ASCII.
 #[derive(Drop)]
 pub(crate) struct Words {
     all: CodeSet,
@@ -30,10 +30,10 @@ pub(crate) struct Words {
 }
 
 impl Words {
-    /// The codes of words.
+    /// Returns the word characters.
     ///
     /// # Errors
-    /// [`OutOfMemory`] where there was no memory for them.
+    /// [`OutOfMemory`] if there was no memory for them.
     #[tactic(auto, unfolding(rl_syntax::specs::Guards::is_word))]
     pub(crate) fn new(alloc: Global) -> Result<Words, OutOfMemory>
         ensures all { IfOk result (λ words. (c : ℕ) → has words.all c ≡ is_word false c) }
@@ -44,7 +44,7 @@ impl Words {
         Ok(Words { all, ascii })
     }
 
-    /// What guards see of the code, if there is one.
+    /// Returns what guards see of the code, or of the start or the end of a text if there is none.
     pub(crate) fn shown(&self, code: Option<u32>) -> Shown
         requires all { (c : ℕ) → has self.now.all c ≡ is_word false c }
         requires ascii { (c : ℕ) → has self.now.ascii c ≡ is_word true c }
@@ -67,7 +67,7 @@ impl Words {
     }
 }
 
-/// Whether guards see the same of two codes.
+/// Returns whether guards see the same in both.
 pub(crate) fn are_seen_alike(shown: Shown, seen: Shown) -> bool
     ensures none { IsTrue result → shown.none ≡ seen.none }
     ensures line_feed { IsTrue result → shown.line_feed ≡ seen.line_feed }

@@ -1,4 +1,5 @@
-//! One side of a comparison: a tree with what is known of its states.
+//! One side of a comparison: a tree with what is known of its states. State 0 is the start of the tree, and state `p + 1` is
+//! behind its place `p`; the places are the tree's tests of a code, numbered from 0 on from left to right.
 
 ghost use Rattle.std.specs.Prelude.{◌≡◌, ◌≤◌, ◌<◌, ◌∷◌, ◌++◌, ℕ, suc, List, length, map, IfErr, IfOk, OnOk, Some, slice_get, slice_index_or};
 ghost use Rattle.rl_ranges.specs.Codes.{has};
@@ -24,13 +25,13 @@ pub(crate) struct Side {
     pub tree: MarkTree,
     /// Where a match may end.
     pub ending: MatchEnding,
-    /// The items of each state.
+    /// The items of each state, in the order of the states: what is tried next from there.
     pub rows: Items<Items<MarkItem>>,
-    /// For each code of a list whether the test of each place takes it.
+    /// For each code of a list, and each place of the tree, whether the test of the place takes the code.
     pub tests: Items<Items<bool>>,
 }
 
-/// The items of each state of a tree: of the start, and of each place.
+/// Returns the items of each state of a tree: on entering it, and behind each of its places.
 fn rows_of(alloc: Global, tree: &MarkTree) -> Result<Items<Items<MarkItem>>, ListError>
     requires { places (marked_of tree.now) ≤ MOST_NODES }
     ensures items { IfOk result (HasItems (marked_of tree.now)) }
@@ -47,7 +48,7 @@ fn rows_of(alloc: Global, tree: &MarkTree) -> Result<Items<Items<MarkItem>>, Lis
     Ok(rows)
 }
 
-/// Adds for each place of a tree, from left to right, whether its test takes the code.
+/// Appends to `tests`, for each place of a tree from left to right, whether its test takes the code.
 fn add_tests(tree: &MarkTree, code: u32, tests: &mut Items<bool>) -> Result<(), OutOfMemory>
     ensures { OnOk result (tests.new ≡ tests.old ++ map (λ set. set code) (sets_in (plain (marked_of tree.now)))) }
 {
@@ -64,7 +65,7 @@ fn add_tests(tree: &MarkTree, code: u32, tests: &mut Items<bool>) -> Result<(), 
     }
 }
 
-/// Whether the test of each place of a tree takes the code.
+/// Returns for each place of a tree, from left to right, whether its test takes the code.
 pub(crate) fn tests_of(
     alloc: Global,
     tree: &MarkTree,
@@ -77,7 +78,7 @@ pub(crate) fn tests_of(
     Ok(tests)
 }
 
-/// For each code of a list, whether the test of each place of a tree takes it.
+/// Returns for each code of a list, and each place of a tree, whether the test of the place takes the code.
 fn tests_of_all(
     alloc: Global,
     tree: &MarkTree,
@@ -94,7 +95,7 @@ fn tests_of_all(
 }
 
 impl Side {
-    /// The side of a tree, for the codes of a list.
+    /// Returns the side of a tree, with the tests of the codes of a list.
     ///
     /// # Errors
     /// [`ListError::TooLong`] only if too many items are tried on entering the tree or behind one of its places,

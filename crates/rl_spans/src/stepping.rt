@@ -1,4 +1,5 @@
-//! The step of one side, and of both.
+//! The step of one side on a code. In its threads places have names; a step gives its own place the name 0, and each earlier
+//! place a name one greater than before.
 
 ghost use Rattle.std.specs.Prelude.{◌≡◌, ◌<◌, ◌≤◌, ◌∷◌, ◌++◌, ℕ, suc, All, IsTrue, IfOk, OnOk, Option, None, Some, map, length};
 ghost use Rattle.rl_syntax.specs.Tree.{sets_in};
@@ -21,7 +22,7 @@ use std::alloc::Global;
 /// Why there is no step.
 #[derive(Clone, Copy)]
 pub(crate) enum StepError {
-    /// A thread is in no state of the side, or a name or a place is too great.
+    /// A thread is in no state of the side, or a name or a position doesn't fit into 32 bits.
     Outside,
     /// Out of memory.
     OutOfMemory,
@@ -47,7 +48,7 @@ pub(crate) struct Seen {
     pub shown: Shown,
 }
 
-/// The name one greater.
+/// Returns the name one greater, or [`StepError::Outside`] for the greatest `u32`.
 fn next_name(name: u32) -> Result<u32, StepError>
     ensures { IfOk result (λ n. n ≡ suc name) }
 {
@@ -57,7 +58,7 @@ fn next_name(name: u32) -> Result<u32, StepError>
     }
 }
 
-/// The places with names one greater.
+/// Returns the places with names one greater.
 fn shifted_places(alloc: Global, places: &[u32]) -> Result<Items<u32>, StepError>
     ensures { IfOk result (λ l. l ≡ map suc places.now) }
 {
@@ -69,7 +70,7 @@ fn shifted_places(alloc: Global, places: &[u32]) -> Result<Items<u32>, StepError
     Ok(list)
 }
 
-/// The span with names of places one greater.
+/// Returns the span with names of its two places one greater.
 fn shifted_span(span: GroupSpan) -> Result<GroupSpan, StepError>
     ensures { IfOk result (λ s. s ≡ span_named suc span) }
 {
@@ -82,7 +83,7 @@ fn shifted_span(span: GroupSpan) -> Result<GroupSpan, StepError>
     })
 }
 
-/// The spans with names of places one greater.
+/// Returns the spans with names of places one greater.
 fn shifted_spans(alloc: Global, spans: &[GroupSpan]) -> Result<Items<GroupSpan>, StepError>
     ensures { IfOk result (λ l. l ≡ map (span_named suc) spans.now) }
 {
@@ -94,7 +95,7 @@ fn shifted_spans(alloc: Global, spans: &[GroupSpan]) -> Result<Items<GroupSpan>,
     Ok(list)
 }
 
-/// The thread with names of places one greater, if it is in one of the states.
+/// Returns the thread with names of places one greater, or [`StepError::Outside`] if its state isn't below `states`.
 fn shifted_thread(alloc: Global, thread: &Thread, states: usize) -> Result<Thread, StepError>
     ensures named { IfOk result (λ t. t ≡ thread_named suc thread.now) }
     ensures inside { OnOk result (thread.now.state < states) }
@@ -114,7 +115,7 @@ fn shifted_thread(alloc: Global, thread: &Thread, states: usize) -> Result<Threa
     })
 }
 
-/// The threads with names of places one greater, if each is in one of the states.
+/// Returns the threads with names of places one greater, or [`StepError::Outside`] if the state of one isn't below `states`.
 fn shifted(alloc: Global, threads: &[Thread], states: usize) -> Result<Items<Thread>, StepError>
     ensures named { IfOk result (λ l. l ≡ named suc threads.now) }
     ensures inside { IfOk result (All (λ (t : Thread). t.state < states)) }
@@ -127,7 +128,8 @@ fn shifted(alloc: Global, threads: &[Thread], states: usize) -> Result<Items<Thr
     Ok(list)
 }
 
-/// What the threads of a side, with names one greater, try at a place named 0.
+/// Returns what the threads of a side try at the place between the codes `before` and `next`. The place gets the name 0, and
+/// the names in the threads become one greater.
 fn tries_at(
     alloc: Global,
     side: &Side,
@@ -154,16 +156,17 @@ fn tries_at(
     Ok(tries)
 }
 
-/// What a side's threads come to on a code.
+/// What the threads of a side come to on a code.
 #[derive(Drop)]
 pub(crate) struct Step {
-    /// What is known of the groups at the first end, if there is one and ends count.
+    /// What is known of the groups where the threads stop before the code; `None` if they don't, or if no match may end there.
     pub stop: Option<Caps>,
     /// The threads behind the code.
     pub threads: Items<Thread>,
 }
 
-/// What is known of the groups at the first end of tries, if there is one and ends count.
+/// Returns what is known of the groups at the first end among the tries; `None` if there is none, or if `accepts` says that no
+/// match may end here.
 pub(crate) fn stop_of(
     alloc: Global,
     accepts: bool,
@@ -178,7 +181,8 @@ pub(crate) fn stop_of(
     }
 }
 
-/// What is known of the groups where a side's threads stop at the end of the text, if they do and ends count.
+/// Returns what is known of the groups where the threads of a side stop at the end of the text; `None` if they don't, or if
+/// `accepts` says that no match may end here.
 pub(crate) fn stop_at_end(
     alloc: Global,
     side: &Side,
@@ -202,7 +206,8 @@ pub(crate) fn stop_at_end(
     Ok(stop)
 }
 
-/// What a side's threads come to on a code.
+/// Returns what the threads of a side come to on a code. `tests` says which places take the code, and `accepts` whether a
+/// match may end before it.
 pub(crate) fn step_on(
     alloc: Global,
     side: &Side,

@@ -1,8 +1,10 @@
-//! Lists of threads and their steps.
+//! Lists of threads, and what they try at a place. `before` and `next` are what guards see of the codes on both sides of the
+//! place.
 
 ghost use Rattle.std.specs.Prelude.{◌≡◌, ◌≤◌, true, ◌∷◌, ◌++◌, length, OnOk, map, slice_index_or, IfOk};
 ghost use Rattle.rl_marks.specs.internal.Caps.{span_named};
-ghost use Rattle.rl_marks.specs.internal.Threads.{stopped, without, distinct, named};
+ghost use Rattle.rl_marks.specs.internal.Threads.{stopped, distinct, named};
+ghost use Rattle.rl_spans.specs.internal.Among.{is_among};
 ghost use Rattle.rl_spans.specs.internal.Shown.{met, all_met, shown_tries, shown_spread, taken_by};
 ghost use Rattle.rl_syntax.specs.declared.limits.TheConstants.{MOST_NODES};
 
@@ -13,7 +15,7 @@ use rl_marks::threads::{Act, Caps, MarkItem, Thread, Try};
 use rl_syntax::Guard;
 use std::alloc::Global;
 
-/// Whether the guard holds between what is shown.
+/// Returns whether the guard holds at the place.
 pub(crate) fn is_met(guard: Guard, before: Shown, next: Shown) -> bool
     ensures { result ≡ met guard before next }
 {
@@ -29,7 +31,7 @@ pub(crate) fn is_met(guard: Guard, before: Shown, next: Shown) -> bool
     }
 }
 
-/// Whether each guard among the acts holds between what is shown.
+/// Returns whether each guard among the acts holds at the place.
 pub(crate) fn are_allowed(acts: &[Act], before: Shown, next: Shown) -> bool
     ensures { result ≡ all_met acts.now before next }
 {
@@ -43,7 +45,7 @@ pub(crate) fn are_allowed(acts: &[Act], before: Shown, next: Shown) -> bool
     true
 }
 
-/// A copy.
+/// Returns a copy of a thread.
 pub(crate) fn copy_of_thread(alloc: Global, thread: &Thread) -> Result<Thread, OutOfMemory>
     ensures { IfOk result (λ t. t ≡ thread.now) }
 {
@@ -54,7 +56,7 @@ pub(crate) fn copy_of_thread(alloc: Global, thread: &Thread) -> Result<Thread, O
     })
 }
 
-/// What is known of the groups at the first end, if there is one.
+/// Returns what is known of the groups at the first end among the tries, or `None` if there is none.
 pub(crate) fn first_stop(alloc: Global, list: &[Try]) -> Result<Option<Caps>, OutOfMemory>
     ensures { IfOk result (λ c. c ≡ stopped true list.now) }
 {
@@ -67,58 +69,34 @@ pub(crate) fn first_stop(alloc: Global, list: &[Try]) -> Result<Option<Caps>, Ou
     Ok(None)
 }
 
-/// The threads in other states.
-pub(crate) fn others(
-    alloc: Global,
-    state: u32,
-    threads: &[Thread],
-) -> Result<Items<Thread>, OutOfMemory>
-    ensures { IfOk result (λ l. l ≡ without state threads.now) }
+/// Returns whether one of the threads is in the state.
+fn has_state(threads: &[Thread], state: u32) -> bool
+    ensures { result ≡ is_among state threads.now }
 {
-    let mut list = Items::new(alloc);
     for thread in threads {
-        if state != thread.state {
-            let same = copy_of_thread(alloc, thread)?;
-            list.push(same)?;
+        if thread.state == state {
+            return true;
         }
     }
-    Ok(list)
+    false
 }
 
-/// The threads behind one, without those in its state.
-pub(crate) fn led_by(
-    alloc: Global,
-    thread: &Thread,
-    threads: &[Thread],
-) -> Result<Items<Thread>, OutOfMemory>
-    ensures { IfOk result (λ l. l ≡ thread.now ∷ without thread.now.state threads.now) }
-{
-    let mut list = Items::new(alloc);
-    let first = copy_of_thread(alloc, thread)?;
-    list.push(first)?;
-    for other in threads {
-        if thread.state != other.state {
-            let same = copy_of_thread(alloc, other)?;
-            list.push(same)?;
-        }
-    }
-    Ok(list)
-}
-
-/// The first thread in each state.
+/// Returns the first thread in each state, in order.
 pub(crate) fn distinct_of(alloc: Global, threads: &[Thread]) -> Result<Items<Thread>, OutOfMemory>
     ensures { IfOk result (λ l. l ≡ distinct threads.now) }
 {
     let mut list = Items::new(alloc);
-    let count = threads.len();
-    for back in 0..count {
-        let index = count - 1 - back;
-        list = led_by(alloc, &threads[index], list.as_slice())?;
+    for thread in threads {
+        if !has_state(list.as_slice(), thread.state) {
+            let copy = copy_of_thread(alloc, thread)?;
+            list.push(copy)?;
+        }
     }
     Ok(list)
 }
 
-/// Adds what comes of the items between what is shown, in order.
+/// Appends what a thread tries at the place: each of the items whose guards hold, in order, with what is known of the groups
+/// after its acts.
 pub(crate) fn add_tries(
     list: &mut Items<Try>,
     alloc: Global,
@@ -149,7 +127,8 @@ pub(crate) fn add_tries(
     Ok(())
 }
 
-/// What the threads try, by the items of each state.
+/// Returns what the threads try at the place, one thread after another. `rows` has the items of each state; a state past it
+/// has none.
 pub(crate) fn spread_of(
     alloc: Global,
     rows: &[Items<MarkItem>],
@@ -177,8 +156,8 @@ pub(crate) fn spread_of(
     Ok(list)
 }
 
-/// The threads behind a letter, by whether the test of each place takes it. Those behind the first end are cut, where ends
-/// count.
+/// Returns the threads behind a letter, one for each try whose test takes it, in order. `takes` says which places take the
+/// letter. If `accepts` says that a match may end here, the tries behind the first end are dropped.
 pub(crate) fn taken_of(
     alloc: Global,
     takes: &[bool],

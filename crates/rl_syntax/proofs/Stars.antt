@@ -82,9 +82,6 @@ stars l m least most inner outer t some_in_some w i j = (λ (k, (n, r, rs), h). 
 pub same_refl : (t : Tree) → SameSpans t t
 same_refl t w i j = (λ h. h, λ h. h)
 
-pub same_trans : (r s t : Tree) → SameSpans r s → SameSpans s t → SameSpans r t
-same_trans r s t a b w i j = (λ h. (b w i j).0 ((a w i j).0 h), λ h. (a w i j).1 ((b w i j).1 h))
-
 pub same_both : (a b e f : Tree) → SameSpans a b → SameSpans e f → SameSpans (both a e) (both b f)
 same_both a b e f p q w i j = (λ (k, x, y). (k, (p w i k).0 x, (q w k j).0 y), λ (k, x, y). (k, (p w i k).1 x, (q w k j).1 y))
 

@@ -18,10 +18,6 @@ abbrev pub joined : List Tree → List Tree
 joined [] = []
 joined (t ∷ ts) = in_turn (t ∷ ts) ∷ []
 
-pub in_turn-joined : (ts : List Tree) → in_turn (joined ts) ≡ in_turn ts
-in_turn-joined [] = refl
-in_turn-joined (t ∷ ts) = refl
-
 pub joined-cons : (t : Tree) (ts : List Tree) → in_turn (t ∷ joined ts) ∷ [] ≡ joined (t ∷ ts)
 joined-cons t [] = refl
 joined-cons t (u ∷ us) = refl

@@ -1,5 +1,6 @@
--- Guards. A guard tests a position in a text by the character before it and the character after it. Guards are the anchors
--- and word boundaries of the manual of Python's `re`.
+-- Guards. A guard tests a position in a text by the character before it and the character after it. Guards are the anchors and
+-- word boundaries of the manual of Python's `re`. A text is a list of codes. Positions in it are counted from 0: position `i`
+-- is before the character with the index `i`, and the last position is the length of the text.
 use Rattle.std.specs.Prelude.{ℕ, zero, suc, Bool, false, not, ◌||◌, ◌==◌, List, [], ◌∷◌, Option, None, Some, is_none, slice_get}
 use Rattle.std.proofs.Math.Bool.{beq}
 use Rattle.rl_ranges.specs.declared.named.Named.TheVariants.{Word as WordClass}
@@ -7,20 +8,21 @@ use Rattle.rl_ranges.specs.Named.{is_named}
 use Rattle.rl_syntax.specs.declared.anchors.Guard.{Guard}
 use Rattle.rl_syntax.specs.declared.anchors.Guard.TheVariants.{Start, LineStart, LineEnd, TextEnd, Word, NotWord}
 
--- Whether the code is a word character, by ASCII or by Unicode.
+-- Whether the code is a word character, which `\w` matches: by ASCII if `ascii` is true, otherwise by Unicode.
 unfoldable pub is_word : Bool → ℕ → Bool
 is_word ascii code = is_named WordClass ascii code
 
--- Whether the code is a line feed.
+-- Whether the code is a line feed, 10.
 abbrev pub is_line_feed : ℕ → Bool
 is_line_feed code = code == 10
 
--- Whether there is a character here and the set holds it.
+-- Whether there is a character (the option isn't `None`), and the set `set` holds its code.
 unfoldable pub is_in : (ℕ → Bool) → Option ℕ → Bool
 is_in set None = false
 is_in set (Some code) = set code
 
--- Whether the guard holds between two characters, either of which may be missing. In the empty text no word starts or ends.
+-- Whether the guard holds between the characters `before` and `next`. `before` is `None` at the start of the text, and `next`
+-- is `None` at its end. In the empty text `\B` holds and `\b` doesn't.
 unfoldable pub holds : Guard → Option ℕ → Option ℕ → Bool
 holds Start before next = is_none before
 holds LineStart before next = is_none before || is_in is_line_feed before
@@ -29,16 +31,18 @@ holds TextEnd before next = is_none next
 holds (Word ascii) before next = not (beq (is_in (is_word ascii) before) (is_in (is_word ascii) next))
 holds (NotWord ascii) before next = beq (is_in (is_word ascii) before) (is_in (is_word ascii) next)
 
--- The character before position `i`, or `None` at the start.
+-- The character before position `i` of the text, or `None` if `i` is 0 or greater than the length of the text.
 abbrev pub code_before : List ℕ → ℕ → Option ℕ
 code_before text zero = None
 code_before text (suc i) = slice_get text i
 
--- Whether the guard holds at position `i` of the text.
+-- Whether the guard holds at position `i` of the text, counted from 0. A position greater than the length of the text has no
+-- character before or after it, just like the only position of the empty text, so the guard holds there if it holds in the
+-- empty text.
 abbrev pub holds_at : Guard → List ℕ → ℕ → Bool
 holds_at g text i = holds g (code_before text i) (slice_get text i)
 
--- The sets that the guard uses. It treats two characters alike if each of these sets holds both or neither.
+-- The sets that the guard uses. The guard treats two characters alike if each of these sets holds both or neither of them.
 abbrev pub sets_named : Guard → List (ℕ → Bool)
 sets_named Start = []
 sets_named LineStart = is_line_feed ∷ []

@@ -1,5 +1,7 @@
--- Lowering: the tree of a pattern. A class becomes its set, sequences and choices nest to the right, a group becomes its
--- body, a repeat becomes copies of its body, and anchors and word boundaries become guards.
+-- Lowering: the tree of a pattern. A `PatTree` is a pattern as it is written, and a `Tree` is what it is lowered to. A class
+-- becomes its set, sequences and choices nest to the right, a group becomes its body, a repeat becomes copies of its body, and
+-- anchors and word boundaries become guards, which are tests of a position. The body of a pattern is what is left when the
+-- anchors at its start and end have been removed.
 use Rattle.std.specs.Prelude.{ℕ, zero, suc, ◌-◌, Bool, true, false, List, [], ◌∷◌, ◌++◌, Option, None, Some, replicate, if◌then◌else◌}
 use Rattle.rl_syntax.specs.declared.anchors.AnchorKind.{AnchorKind}
 use Rattle.rl_syntax.specs.declared.anchors.AnchorKind.TheVariants.{Caret, TextStart, Dollar, TextEnd}
@@ -20,39 +22,44 @@ one_of [] = empty
 one_of (t ∷ []) = t
 one_of (t ∷ u ∷ us) = either t (one_of (u ∷ us))
 
--- The optional tree. If the flag is `true` (greedy), the tree is tried before nothing.
+-- The tree made optional. If the flag is `true` (greedy), matching the tree is tried first, otherwise matching nothing.
 abbrev pub option_of : Bool → Tree → Tree
 option_of true t = either t empty
 option_of false t = either empty t
 
--- Up to `k` optional copies of the tree, each nested in the one before it, as a list of at most one tree. The list is empty
--- if `k` is 0.
+-- Up to `k` optional copies of the tree, each nested in the one before it, as a list of one tree: `(tt?)?` for 2 copies of
+-- `t`. Each is greedy if the flag is `true`, otherwise lazy. The list is empty if `k` is 0.
 abbrev pub options : Bool → Tree → ℕ → List Tree
 options greedy t zero = []
 options greedy t (suc k) = option_of greedy (in_turn (t ∷ options greedy t k)) ∷ []
 
--- What follows the required copies of a repeat: a loop if there is no maximum, otherwise the optional copies.
+-- What follows the `least` required copies of a repeat, as a list of at most one tree: a loop if there is no maximum,
+-- otherwise `most - least` optional copies, or no tree if `most` isn't greater than `least`. Loop and copies are greedy if the
+-- flag is `true`.
 abbrev pub tail_of : Bool → Tree → ℕ → Option ℕ → List Tree
 tail_of greedy t least None = many t greedy ∷ []
 tail_of greedy t least (Some most) = options greedy t (most - least)
 
--- The tree repeated `least` to `most` times.
+-- The tree repeated `least` to `most` times, or `least` times or more if `most` is `None`. It is the empty tree if `most` is 0
+-- and `least` too, and `least` copies if `most` is less than `least`.
 abbrev pub times : ℕ → Option ℕ → Bool → Tree → Tree
 times least most greedy t = in_turn (replicate least t ++ tail_of greedy t least most)
 
--- The guard of an anchor. The flag is MULTILINE. A `$` without MULTILINE never occurs in a body.
+-- The guard of an anchor in a body. The flag is MULTILINE. A `$` without MULTILINE never occurs in a body; it would give the
+-- same guard as one with MULTILINE.
 abbrev pub guard_of : AnchorKind → Bool → Guard
 guard_of Caret multiline = if multiline then LineStart else Start
 guard_of TextStart multiline = Start
 guard_of Dollar multiline = LineEnd
 guard_of TextEnd multiline = AtTextEnd
 
--- The guard of a word boundary. The flags say whether it is `\B` and whether words are ASCII words.
+-- The guard of a word boundary: `\B` if `negated` is true, otherwise `\b`. If `ascii` is true, words are ASCII words,
+-- otherwise Unicode words.
 abbrev pub boundary_guard : Bool → Bool → Guard
 boundary_guard negated ascii = if negated then NotWord ascii else Word ascii
 
 abbrev mutual
-  -- The tree of a pattern. A feature that isn't judged never occurs in a body.
+  -- The tree of a pattern. A feature that isn't judged never occurs in a body; it would give the empty tree.
   pub lowered : PatTree → Tree
   lowered (nothing span) = empty
   lowered (class span set) = one set

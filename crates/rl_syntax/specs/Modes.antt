@@ -1,6 +1,8 @@
--- Modes. In each mode a pattern becomes a tree and an ending. A fullmatch ends at the end of the text. A match ends
--- anywhere, unless there is a trailing anchor: then it ends at the end of the text, and if the anchor is only `$`, a final
--- line feed may come between. A search without a leading anchor first skips characters, as few as possible.
+-- Modes. A pattern is matched by `fullmatch`, `match` or `search`; in each of these modes it becomes a tree and an ending,
+-- which says where a match may end. In `fullmatch` it ends at the end of the text, and the anchors removed from the start and
+-- the end of the pattern make no difference. In `match` and `search` it ends anywhere, unless the pattern has a trailing
+-- anchor: then it ends at the end of the text, and if the anchor is only `$`, a final line feed may come between. In `search`
+-- without a leading anchor, characters are skipped first, as few as possible.
 use Rattle.std.specs.Prelude.{ℕ, Bool, true, false, nat_lt}
 use Rattle.rl_ranges.specs.declared.universe.Universe.{Universe}
 use Rattle.rl_ranges.specs.Text.{code_count}
@@ -15,22 +17,26 @@ use Rattle.rl_syntax.specs.Tree.{Tree, empty, one, both, either, many}
 use Rattle.rl_syntax.specs.PatTree.{PatTree}
 use Rattle.rl_syntax.specs.Lowering.{lowered}
 
--- Whether the universe contains the code.
+-- Whether the universe contains the code: whether the code is less than the number of codes in the universe.
 unfoldable pub is_code : Universe → ℕ → Bool
 is_code universe code = nat_lt code (code_count universe)
 
--- The tree, followed by what the trailing anchor allows after it: an optional line feed if the anchor is only `$`.
+-- The tree, followed by what the trailing anchors allow after it: an optional line feed if there is only `$`, otherwise
+-- nothing.
 abbrev pub trailed : Trail → Tree → Tree
 trailed None t = t
 trailed Dollar t = both t (either empty (one is_line_feed))
 trailed End t = t
 
--- The tree after as few characters as possible. If the flag is `true`, a leading anchor ties it to the start instead.
+-- The tree, preceded by any characters of the universe, as few as possible. If the flag is `true`, there is a leading anchor,
+-- and nothing precedes the tree.
 abbrev pub sought : Universe → Bool → Tree → Tree
 sought universe true t = t
 sought universe false t = both (many (one (is_code universe)) false) t
 
--- The tree of a whole search, match or fullmatch, made from the tree of the body.
+-- The tree of a whole pattern in the mode, given the tree `t` of its body. `leading` says whether the pattern has a leading
+-- anchor, and `trailing` which trailing anchors it has. In `fullmatch` this is the body's tree; in `match`, that tree with
+-- what the trailing anchors allow after it; in `search`, also with skipped characters before it.
 abbrev pub wrapped : Mode → Universe → Bool → Trail → Tree → Tree
 wrapped Fullmatch universe leading trailing t = t
 wrapped Match universe leading trailing t = trailed trailing t
@@ -42,12 +48,14 @@ ending_at None = Anywhere
 ending_at Dollar = AtEnd
 ending_at End = AtEnd
 
--- Where a match may end in the mode.
+-- Where a match may end in the mode, given the trailing anchors: in `fullmatch` at the end of the text, otherwise as
+-- `ending_at` says.
 abbrev pub ending_of : Mode → Trail → Ending
 ending_of Fullmatch trailing = AtEnd
 ending_of Match trailing = ending_at trailing
 ending_of Search trailing = ending_at trailing
 
--- The tree of a body in the mode.
+-- The tree of a whole pattern in the mode, given its body without the outer anchors. `leading` says whether the pattern has a
+-- leading anchor, and `trailing` which trailing anchors it has.
 abbrev pub tree_in : Mode → Universe → Bool → Trail → PatTree → Tree
 tree_in mode universe leading trailing body = wrapped mode universe leading trailing (lowered body)

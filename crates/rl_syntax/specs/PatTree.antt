@@ -1,5 +1,6 @@
--- Patterns as trees. Contracts see a pattern as the tree of its parts with their positions, in which a class is the test of
--- its characters.
+-- Patterns as trees. Contracts see a pattern as the tree of its parts, as they are written. Each part has its span, the range
+-- of its positions in the pattern. In the tree, a class is the test of its characters: a function from codes to `true` or
+-- `false`.
 use Rattle.std.specs.Prelude.{ℕ, Bool, List, [], ◌∷◌, Option}
 use Rattle.rl_ranges.specs.Codes.{has}
 use Rattle.rl_syntax.specs.declared.span.Span.{Span}
@@ -20,8 +21,8 @@ mutual
     seq : Span → PatTrees → PatTree
     -- A choice between branches.
     choice : Span → BranchTrees → PatTree
-    -- The body repeated between a minimum and a maximum number of times. The second span is the quantifier's, and the flag
-    -- says whether it is greedy.
+    -- The body repeated between a minimum and a maximum number of times, or without an upper bound if the maximum is `None`.
+    -- The first span is that of the whole part, the second that of the quantifier, and the flag says whether it is greedy.
     repeat : Span → Span → ℕ → Option ℕ → Bool → PatTree → PatTree
     -- A group. The flag says whether it captures.
     group : Span → Bool → PatTree → PatTree
@@ -29,30 +30,31 @@ mutual
     anchor : Span → AnchorKind → Bool → PatTree
     -- A word boundary. The flags say whether it is `\B` and whether words are ASCII words.
     boundary : Span → Bool → Bool → PatTree
-    -- A feature that isn't judged.
+    -- A feature that isn't judged, such as a lookahead.
     outside : Span → Feature → PatTree
 
-  -- A sequence of items.
+  -- The items of a sequence, in order.
   pub data PatTrees : Type 0 where
     no_items : PatTrees
     item : PatTree → PatTrees → PatTrees
 
-  -- The branches of a choice, each with its span.
+  -- The branches of a choice, in order, each with its span and its body.
   pub data BranchTrees : Type 0 where
     no_branches : BranchTrees
     branch : Span → PatTree → BranchTrees → BranchTrees
 
--- Turns a list of items into a sequence.
+-- The sequence of the items in the list.
 abbrev pub items_of : List PatTree → PatTrees
 items_of [] = no_items
 items_of (p ∷ ps) = item p (items_of ps)
 
--- Turns a list of branches, each with its span, into the branches of a choice.
+-- The branches of a choice, given the list of their spans and bodies, in order.
 abbrev pub branches_of : List (Span × PatTree) → BranchTrees
 branches_of [] = no_branches
 branches_of (b ∷ bs) = branch b.0 b.1 (branches_of bs)
 
--- The tree of the program's value, given the trees of its parts.
+-- The tree of a node of the program's pattern, given the trees of the node's parts. A branch is given as the pair of its span
+-- and its body's tree.
 abbrev pub layer_of : Open.Pat-F PatTree (Span × PatTree) → PatTree
 layer_of (Open.Pat-F.Nothing span) = nothing span
 layer_of (Open.Pat-F.Class span set) = class span (has set)
@@ -64,10 +66,10 @@ layer_of (Open.Pat-F.Anchor span kind multiline) = anchor span kind multiline
 layer_of (Open.Pat-F.Boundary span negated ascii) = boundary span negated ascii
 layer_of (Open.Pat-F.Outside span what) = outside span what
 
--- The span and the body of the program's branch.
+-- The span of a branch and the tree of its body, as a pair.
 abbrev pub branch_of : Open.Branch-F PatTree (Span × PatTree) → Span × PatTree
 branch_of b = (b.span, b.body)
 
--- The tree that contracts see in place of the program's value.
+-- The tree that contracts see in place of the program's pattern.
 abbrev pub pat_of : Pat → PatTree
 pat_of = fold-Pat PatTree (Span × PatTree) layer_of branch_of

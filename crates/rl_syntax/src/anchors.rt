@@ -18,7 +18,7 @@ pub enum AnchorKind {
 pub enum Trail {
     /// There are none.
     None,
-    /// Only `$`. It also matches before a line feed that ends the text.
+    /// Only `$` without MULTILINE. It also matches before a line feed that ends the text.
     Dollar,
     /// `\Z`, possibly along with `$`.
     End,

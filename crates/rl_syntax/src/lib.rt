@@ -7,8 +7,8 @@
 //!
 //! # What is proved
 //!
-//! The tree is the one that the definition gives. [`LowerError::TooLarge`] is returned if and only if the tree would have
-//! more than 4,000 nodes, before any of it is built. This crate also defines what every promise about patterns refers to:
+//! The tree is the one that the definition gives, and it has at most 4,000 nodes. [`LowerError::TooLarge`] is returned only if
+//! it would have more. This crate also defines what every promise about patterns refers to:
 //! which positions of a text a tree spans, the run of the backtracking matcher of Weideman and others (2016), and the cost,
 //! which counts the tests of that run up to the first hit. The module [`laws`] states the rule of repetition and the star
 //! equations.

@@ -6,7 +6,7 @@ ghost use Rattle.rl_syntax.specs.PatTree.{pat_of, items_of, branches_of};
 ghost use Rattle.rl_syntax.specs.Tree.{Tree, tree_of, size, IsOver};
 ghost use Rattle.rl_syntax.specs.Lowering.{in_turn, one_of, option_of, options, times, guard_of, lowered, items_lowered, branches_lowered};
 ghost use Rattle.rl_syntax.specs.Lowering.{boundary_guard as guard_of_boundary};
-ghost use Rattle.rl_syntax.specs.Counting.{branch_tree, held};
+ghost use Rattle.rl_syntax.specs.Counting.{branch_tree, trees_of_option};
 ghost use Rattle.rl_syntax.specs.Guards.{is_line_feed};
 ghost use Rattle.rl_syntax.specs.Modes.{trailed, sought, wrapped, ending_of, is_code};
 ghost use Rattle.rl_syntax.specs.Pattern.{pattern_tree, pattern_ending, is_anchored, trail_of, universe_of};
@@ -21,10 +21,10 @@ use rl_lists::OutOfMemory;
 use rl_ranges::{CodeSet, Universe};
 use std::alloc::Global;
 
-/// Builds the pattern's tree in a mode, and says where a match may end.
+/// Returns the pattern's tree in a mode, and where a match may end. The tree has at most [`MOST_NODES`] (4,000) nodes.
 ///
 /// # Errors
-/// - [`LowerError::TooLarge`] if the tree would have more than [`MOST_NODES`] nodes. This is found before any of it is
+/// - [`LowerError::TooLarge`] if the tree would have more than [`MOST_NODES`] nodes. Its nodes are counted before any of it is
 ///   built.
 /// - [`LowerError::OutOfMemory`] if there is no memory for the tree.
 pub fn lower(alloc: Global, p: &Pattern, mode: Mode) -> Result<Lowered, LowerError>
@@ -210,7 +210,7 @@ fn lower_options(
     count: u32,
     greedy: bool,
 ) -> Result<Option<Re>, OutOfMemory>
-    ensures { IfOk result (λ o. held o ≡ options greedy (lowered (pat_of body.now)) count) }
+    ensures { IfOk result (λ o. trees_of_option o ≡ options greedy (lowered (pat_of body.now)) count) }
 {
     let mut rest = None;
     for _ in 0..count {
@@ -226,7 +226,7 @@ fn lower_options(
 
 /// Returns the tree, or the empty tree if there is none.
 fn whole(rest: Option<Re>) -> Re
-    ensures { tree_of result ≡ in_turn (held rest) }
+    ensures { tree_of result ≡ in_turn (trees_of_option rest) }
 {
     rest.unwrap_or(Re::Empty)
 }
@@ -237,7 +237,7 @@ fn any_number(
     tree: Result<Re, OutOfMemory>,
     greedy: bool,
 ) -> Result<Option<Re>, OutOfMemory>
-    ensures { (t : Tree) → IfOk tree (λ re. tree_of re ≡ t) → IfOk result (λ o. held o ≡ Tree.many t greedy ∷ []) }
+    ensures { (t : Tree) → IfOk tree (λ re. tree_of re ≡ t) → IfOk result (λ o. trees_of_option o ≡ Tree.many t greedy ∷ []) }
 {
     let Ok(tree) = tree else {
         return Err(OutOfMemory);
@@ -251,7 +251,7 @@ fn followed(
     first: Result<Re, OutOfMemory>,
     rest: Option<Re>,
 ) -> Result<Re, OutOfMemory>
-    ensures { (t : Tree) → IfOk first (λ re. tree_of re ≡ t) → IfOk result (λ re. tree_of re ≡ in_turn (t ∷ held rest)) }
+    ensures { (t : Tree) → IfOk first (λ re. tree_of re ≡ t) → IfOk result (λ re. tree_of re ≡ in_turn (t ∷ trees_of_option rest)) }
 {
     match rest {
         None => first,
@@ -285,7 +285,7 @@ fn preferred(
     first: Result<Re, OutOfMemory>,
     rest: Option<Re>,
 ) -> Result<Re, OutOfMemory>
-    ensures { (t : Tree) → IfOk first (λ re. tree_of re ≡ t) → IfOk result (λ re. tree_of re ≡ one_of (t ∷ held rest)) }
+    ensures { (t : Tree) → IfOk first (λ re. tree_of re ≡ t) → IfOk result (λ re. tree_of re ≡ one_of (t ∷ trees_of_option rest)) }
 {
     let Ok(first) = first else {
         drop(rest);

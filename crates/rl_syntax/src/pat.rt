@@ -6,7 +6,7 @@ use crate::span::Span;
 use rl_lists::Items;
 use rl_ranges::CodeSet;
 
-/// A pattern or a part of one, with the positions of its characters.
+/// A pattern or a part of one. `span` is the range of positions of the whole part.
 #[cycle(pat)]
 #[derive(Drop)]
 pub enum Pat {
@@ -39,13 +39,13 @@ pub enum Pat {
         greedy: bool,
         body: Box<Pat>,
     },
-    /// A group.
+    /// A group. `captures` says whether it captures.
     Group {
         span: Span,
         captures: bool,
         body: Box<Pat>,
     },
-    /// An anchor, and whether MULTILINE is in force there.
+    /// An anchor. `multiline` says whether MULTILINE is in force there.
     Anchor {
         span: Span,
         kind: AnchorKind,
@@ -57,7 +57,7 @@ pub enum Pat {
         negated: bool,
         ascii: bool,
     },
-    /// A feature that isn't judged.
+    /// A feature that isn't judged, such as a lookahead.
     Outside {
         span: Span,
         what: Feature,

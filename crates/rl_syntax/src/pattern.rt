@@ -1,4 +1,5 @@
-//! Patterns whose outer anchors have been removed.
+//! Patterns whose outer anchors have been removed: `\A` and `^` without MULTILINE at the start (leading anchors), and `\Z` and
+//! `$` without MULTILINE at the end (trailing anchors).
 
 ghost use Rattle.std.specs.Prelude.{◌≡◌};
 ghost use Rattle.rl_syntax.specs.PatTree.{pat_of};
@@ -11,17 +12,24 @@ use rl_ranges::Universe;
 /// A pattern that can be judged: its body, the outer anchors that were removed from it, and the universe of its characters.
 #[derive(Drop)]
 pub struct Pattern {
+    /// The body, without the outer anchors.
     body: Pat,
+    /// Whether a leading anchor was removed.
     leading: bool,
+    /// The trailing anchors that were removed.
     trailing: Trail,
+    /// The universe of the pattern's characters.
     universe: Universe,
+    // A proof that the body is that of a pattern, which exists only in contracts.
     ghost judged: { IsPattern universe (pat_of body) } by { IsPattern-prop universe (pat_of body) },
 }
 
 impl Pattern {
     ghost use Rattle.rl_syntax.specs.Pattern.{body_of, is_anchored, trail_of, universe_of};
 
-    /// Creates the pattern from a body and its outer anchors.
+    /// Returns the pattern with this body. `leading` says whether a leading anchor was removed from it, and `trailing` which
+    /// trailing anchors were. The body must satisfy `IsPattern`: it has no outer anchor, no feature that isn't judged and no
+    /// `$` without MULTILINE, its sets lie in the universe, and no repeat has a maximum less than its minimum.
     pub fn new(body: Pat, leading: bool, trailing: Trail, universe: Universe) -> Pattern
         requires { IsPattern universe (pat_of body) }
         ensures body { body_of result ≡ pat_of body }
@@ -37,7 +45,7 @@ impl Pattern {
         }
     }
 
-    /// Returns the body, without the outer anchors.
+    /// Returns the body, without the outer anchors. It satisfies `IsPattern`.
     pub fn body(&self) -> &Pat
         ensures same { pat_of result.now ≡ body_of self.now }
         ensures judged { IsPattern (universe_of self.now) (body_of self.now) }
@@ -45,14 +53,14 @@ impl Pattern {
         &self.body
     }
 
-    /// Whether there is a leading anchor.
+    /// Returns whether a leading anchor was removed from the pattern.
     pub fn leading(&self) -> bool
         ensures { result ≡ is_anchored self.now }
     {
         self.leading
     }
 
-    /// Returns the trailing anchor.
+    /// Returns the trailing anchors that were removed from the pattern.
     pub fn trailing(&self) -> Trail
         ensures { result ≡ trail_of self.now }
     {

@@ -1,4 +1,5 @@
-//! Trees.
+//! Trees. A pattern is lowered to a tree of a few operators, in a mode: `fullmatch`, `match` or `search`. A guard is a test of
+//! a position in a text; it reads no character.
 
 ghost use Rattle.std.specs.Prelude.{◌≡◌, IfOk};
 ghost use Rattle.rl_syntax.specs.Tree.{tree_of, size, capped, Tree};
@@ -15,7 +16,7 @@ pub enum Re {
     Empty,
     /// Matches one character of the set.
     One(CodeSet),
-    /// Tests the position.
+    /// Matches the empty text at each position at which the guard holds.
     Guard(Guard),
     /// The first tree, then the second.
     Both(Box<Re>, Box<Re>),
@@ -26,7 +27,7 @@ pub enum Re {
 }
 
 impl Re {
-    /// Creates the tree of `first` followed by `second`.
+    /// Returns the tree that matches `first` and then `second`.
     ///
     /// # Errors
     /// [`OutOfMemory`] if there is no memory for a node. Both trees are dropped then.
@@ -37,7 +38,7 @@ impl Re {
         Ok(Re::Both(first, second))
     }
 
-    /// Creates a choice that tries `first` before `second`.
+    /// Returns the tree of a choice that tries `first` before `second`.
     ///
     /// # Errors
     /// [`OutOfMemory`] if there is no memory for a node. Both trees are dropped then.
@@ -63,7 +64,8 @@ impl Re {
         Ok((first, second))
     }
 
-    /// Creates a loop: the body any number of times. A greedy loop tries one more repetition before stopping.
+    /// Returns the tree of a loop: the body any number of times. If `greedy` is true, the loop tries one more repetition
+    /// before stopping, otherwise it tries to stop first.
     ///
     /// # Errors
     /// [`OutOfMemory`] if there is no memory for a node. The body is dropped then.
@@ -74,7 +76,7 @@ impl Re {
         Ok(Re::Many(body, greedy))
     }
 
-    /// Returns the number of nodes, or 2^64 - 1 if there are more.
+    /// Returns the number of nodes of the tree, or 2^64 - 1 if there are more.
     pub fn nodes(&self) -> u64
         ensures { result ≡ capped (size (tree_of self.now)) }
     {

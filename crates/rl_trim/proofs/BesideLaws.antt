@@ -14,14 +14,14 @@ use Rattle.rl_syntax.specs.declared.re.Ending.TheVariants.{AtEnd}
 use Rattle.rl_syntax.specs.Tree.{Tree, places, guard_sets}
 use Rattle.rl_prio.specs.Items.{Item, test_at, pass, after, set_of, all_hold}
 use Rattle.rl_prio.specs.Letters.{all_sets, kinds, kind_of}
-use Rattle.rl_prio.specs.States.{state_of, accepting, dead, state_count, test_target, pass_target, ends_here, moves_on, items_of, kind_before, moves_over}
+use Rattle.rl_prio.specs.States.{state_of, accepting, dead, state_count, test_target, end_target, ends_here, moves_on, items_of, kind_before, moves_over}
 use Rattle.rl_prio.specs.Automaton.{Automaton, IsAutomaton, letters_count, accepting_state, dead_state}
 use Rattle.rl_prio.specs.StandsFor.{StandsOver}
 use Rattle.rl_prio.proofs.AutomatonLemmas.{moves_at-inside, automaton_of}
 use Rattle.rl_prio.proofs.LikenessLemmas.{Finer-itself, ItemsKnown, first-known, after-known}
 use Rattle.rl_prio.proofs.WholeLemmas.{no_accepting_moves, no_dead_moves}
 use Rattle.rl_sets.specs.Live.{below}
-use Rattle.rl_equiv.specs.Bases.{TellsNoMore, IsBase}
+use Rattle.rl_equiv.specs.Bases.{DistinguishesNoMore, IsBase}
 use Rattle.rl_equiv.specs.Joined.{StandTogether}
 use Rattle.rl_equiv.specs.Languages.{SameLanguage}
 use Rattle.rl_equiv.specs.declared.pair.SetPair.{SetPair}
@@ -29,7 +29,7 @@ use Rattle.rl_equiv.specs.SetPairs.{joint_sets, set_pairs, IsClosed}
 use Rattle.rl_equiv.proofs.ClosedLaws.{closed-same}
 use Rattle.rl_trim.specs.declared.judgement.Judgement.{Judgement}
 use Rattle.rl_trim.specs.declared.judgement.Judgement.TheVariants.{Equal, Apart, Passed}
-use Rattle.rl_trim.specs.Judged.{IsJudged, IsTold}
+use Rattle.rl_trim.specs.Judged.{IsJudged, IsTrueJudgement}
 use Rattle.rl_trim.specs.Without.{Without}
 use Rattle.rl_trim.proofs.WithoutMoves.{without_tells}
 use Rattle.rl_equiv.proofs.ImageLaws.{length-below, get_or-below}
@@ -47,7 +47,7 @@ module _ (t : Tree) (n : ℕ) where
   test-below p (Some c) codes in_places =
       cond_both (set_of t 0 p c) (state_of t n p (kind_of t n c)) (dead t n) (λ q. q < state_count t n) (λ _. place-below p c (codes c refl) in_places) (λ _. omega arith)
 
-  pass-below : (next : Option ℕ) → pass_target t AtEnd n next < state_count t n
+  pass-below : (next : Option ℕ) → end_target t AtEnd n next < state_count t n
   pass-below next = cond_both (ends_here AtEnd next) (accepting t n) (dead t n) (λ q. q < state_count t n) (λ _. omega arith) (λ _. omega arith)
 
   abbrev AreBelow : List ℕ → Type 0
@@ -62,8 +62,8 @@ module _ (t : Tree) (n : ℕ) where
       All-append (λ q. q < state_count t n) (if all_hold gs before next then test_target t n p next ∷ [] else []) (moves_on t AtEnd n before next l)
       (one-below (all_hold gs before next) (test_target t n p next) (test-below p next codes known.1)) (moves-below before next codes l known.2)
   moves-below before next codes (pass gs ∷ l) known =
-      All-append (λ q. q < state_count t n) (if all_hold gs before next then pass_target t AtEnd n next ∷ [] else []) (moves_on t AtEnd n before next l)
-      (one-below (all_hold gs before next) (pass_target t AtEnd n next) (pass-below next)) (moves-below before next codes l known.1)
+      All-append (λ q. q < state_count t n) (if all_hold gs before next then end_target t AtEnd n next ∷ [] else []) (moves_on t AtEnd n before next l)
+      (one-below (all_hold gs before next) (end_target t AtEnd n next) (pass-below next)) (moves-below before next codes l known.1)
 
   items-known : (q : ℕ) → ItemsKnown (guard_sets t) (places t) (items_of t n q)
   items-known zero = first-known (guard_sets t) (places t) t 0 (omega arith) (Finer-itself (guard_sets t))
@@ -82,7 +82,7 @@ module _ (t : Tree) (n : ℕ) where
 
 -- ---- the automaton of the other tree
 
-module _ (u : Universe) (a : Automaton) (s t : Tree) (base : IsBase u t a) (fewer : TellsNoMore t s) where
+module _ (u : Universe) (a : Automaton) (s t : Tree) (base : IsBase u t a) (fewer : DistinguishesNoMore t s) where
   abbrev n : ℕ
   n = code_count u
 
@@ -135,11 +135,11 @@ module _ (u : Universe) (a : Automaton) (s t : Tree) (base : IsBase u t a) (fewe
   }
 
 -- A closed relation of the set pairs keeps the languages equal.
-pub same-language : (u : Universe) (a : Automaton) (s t : Tree) (relation : List SetPair) → IsBase u t a → TellsNoMore t s → IsClosed (set_pairs u t s) relation → SameLanguage u t s
+pub same-language : (u : Universe) (a : Automaton) (s t : Tree) (relation : List SetPair) → IsBase u t a → DistinguishesNoMore t s → IsClosed (set_pairs u t s) relation → SameLanguage u t s
 same-language u a s t relation base fewer closed = closed-same u t s a (other u a s t base fewer) relation (stand-beside u a s t base fewer) closed
 
 -- What a judgement tells of the languages.
-pub judged-told : (u : Universe) (a : Automaton) (s t : Tree) (keep : List Bool) (limit : ℕ) (j : Judgement) → IsBase u t a → Without keep s t → IsJudged (set_pairs u t s) limit j → IsTold u t s j
+pub judged-told : (u : Universe) (a : Automaton) (s t : Tree) (keep : List Bool) (limit : ℕ) (j : Judgement) → IsBase u t a → Without keep s t → IsJudged (set_pairs u t s) limit j → IsTrueJudgement u t s j
 judged-told u a s t keep limit Equal base without h = same-language u a s t h.0 base (without_tells without) h.1.closed
 judged-told u a s t keep limit Apart base without h = tt
 judged-told u a s t keep limit Passed base without h = tt

@@ -1,8 +1,8 @@
 -- Laws of letters on which states move otherwise than on the letter before.
-use Rattle.std.proofs.Common.{◌≡◌, ◌∙◌, ℕ, suc, ◌+◌, ◌-◌, ◌<◌, ◌≤◌, ◌⊎◌, inl, inr, List, [], ◌∷◌, ◌++◌, length, get_or, set, take, replicate, All, Bool, true, false, not, ◌&&◌, eqb, sym, ap, subst, arith}
+use Rattle.std.proofs.Common.{◌≡◌, ◌∙◌, ℕ, suc, ◌+◌, ◌-◌, ◌<◌, ◌≤◌, List, [], length, get_or, set, take, All, Bool, false, not, ◌&&◌, eqb, sym, ap, subst, arith}
 use Rattle.std.specs.List.{list_any}
-use Rattle.std.proofs.lemmas.Bool.{cases_lt, cases_eq, both_ways, or_left, or_right, false_from_ne_true}
-use Rattle.std.proofs.lemmas.List.{length_push, length-set, length-replicate, get_or-set_same, get_or-set_other, get_or_push, get_or_append_left, get_or_default, take_all}
+use Rattle.std.proofs.lemmas.Bool.{both_ways, or_left, or_right, false_from_ne_true}
+use Rattle.std.proofs.lemmas.List.{get_or_default, take_all}
 use Rattle.std.proofs.lemmas.List.Elements.{All-more, All-weaker}
 use Rattle.rl_lanes.specs.Rows.{list_or}
 use Rattle.rl_lanes.proofs.RowLemmas.{length-list_or, get_or-list_or}
@@ -22,46 +22,7 @@ pub record IsFinding (a : Automaton) (state letters letter : ℕ) (row : List Bo
   pub wide : length row ≡ letters
   pub same : (l : ℕ) → suc l < letter → get_or row (suc l) false ≡ false → moves_at a state l ≡ moves_at a state (suc l)
 
-pub finding-none : (a : Automaton) (state letters : ℕ) (row : List Bool) → row ≡ replicate letters false → IsFinding a state letters 1 row
-finding-none a state letters row e = record { wide = ap length e ∙ length-replicate letters false; same = λ l lt none. absurd (omega arith) }
-
-pub finding-other : (a : Automaton) (state letters letter : ℕ) (row more : List Bool) → 1 ≤ letter → letter < letters → more ≡ set row letter true → IsFinding a state letters letter row → IsFinding a state letters (letter + 1) more
-finding-other a state letters letter row more some low e f = subst (IsFinding a state letters (letter + 1)) (sym e) (record {
-  wide = length-set row letter true ∙ f.wide;
-  same = λ l lt none. by l lt none (cases_eq (suc l) letter);
-})
-  where
-    by : (l : ℕ) → suc l < letter + 1 → get_or (set row letter true) (suc l) false ≡ false → (suc l ≡ letter) ⊎ (suc l ≡ letter → ⊥) → moves_at a state l ≡ moves_at a state (suc l)
-    by l lt none (inl here) =
-        absurd (both_ways (get_or (set row letter true) (suc l) false) none (ap (λ (k : ℕ). get_or (set row letter true) k false) here ∙ get_or-set_same row letter true false (omega (arith, f.wide, low))))
-    by l lt none (inr other) =
-        let less : suc l < letter = grind (arith, lt, other) in
-        f.same l less (sym (get_or-set_other row letter (suc l) true false other) ∙ none)
-
-pub finding-same : (a : Automaton) (state letters letter : ℕ) (row : List Bool) → 1 ≤ letter → moves_at a state (letter - 1) ≡ moves_at a state letter → IsFinding a state letters letter row → IsFinding a state letters (letter + 1) row
-finding-same a state letters letter row some e f = record { wide = f.wide; same = λ l lt none. by l lt none (cases_lt (suc l) letter) }
-  where
-    by : (l : ℕ) → suc l < letter + 1 → get_or row (suc l) false ≡ false → (suc l < letter) ⊎ (letter ≤ suc l) → moves_at a state l ≡ moves_at a state (suc l)
-    by l lt none (inl less) = f.same l less none
-    by l lt none (inr more) =
-        let here : letter ≡ suc l = omega arith in
-        let before : letter - 1 ≡ l = omega arith in
-        ap (moves_at a state) (sym before) ∙ e ∙ ap (moves_at a state) here
-
 -- ---- the rows of all states
-
-pub rows-none : (a : Automaton) (rows : List (List Bool)) → rows ≡ [] → AreRows a 0 rows
-rows-none a rows e = (ap length e, λ q lt. absurd (omega arith))
-
-pub rows-more : (a : Automaton) (states : ℕ) (rows more : List (List Bool)) (row : List Bool) → more ≡ rows ++ row ∷ [] → IsWide a row → IsSame a row states → AreRows a states rows → AreRows a (states + 1) more
-rows-more a states rows more row e wide same are = subst (AreRows a (states + 1)) (sym e) (omega (arith, length_push rows row, are.0), λ q lt. by q lt (cases_lt q states))
-  where
-    by : (q : ℕ) → q < states + 1 → (q < states) ⊎ (states ≤ q) → IsWide a (get_or (rows ++ row ∷ []) q []) × IsSame a (get_or (rows ++ row ∷ []) q []) q
-    by q lt (inl less) = subst (λ (r : List Bool). IsWide a r × IsSame a r q) (sym (get_or_append_left rows (row ∷ []) [] q (omega (arith, less, are.0)))) (are.1 q less)
-    by q lt (inr late) =
-        let here : states ≡ q = omega arith in
-        subst (λ (r : List Bool). IsWide a r × IsSame a r q) (sym (get_or_push rows row [] q (omega (arith, length_push rows row, here, are.0))))
-        (wide, subst (IsSame a row) here same)
 
 -- ---- rows joined
 
@@ -88,9 +49,6 @@ pub record IsAdding (a : Automaton) (old now : List Bool) (set : List ℕ) (i : 
   pub marked : StaysMarked old now
   pub same : IsSameOn a now (take i set)
 
-pub adding-none : (a : Automaton) (old : List Bool) (set : List ℕ) → IsWide a old → IsAdding a old old set 0
-adding-none a old set wide = record { wide = wide; marked = λ k h. h; same = λ k d lt. absurd (omega arith) }
-
 pub adding-more : (a : Automaton) (old now more added : List Bool) (set : List ℕ) (i q : ℕ) → i < length set → get_or set i 0 ≡ q → more ≡ list_or now added → IsWide a added → IsSame a added q
     → IsAdding a old now set i → IsAdding a old more set (i + 1)
 adding-more a old now more added set i q lt here e wide same f = subst (λ (r : List Bool). IsAdding a old r set (i + 1)) (sym e) (record {
@@ -107,12 +65,6 @@ adding-more a old now more added set i q lt here e wide same f = subst (λ (r : 
 
 pub adding-all : (a : Automaton) (old now : List Bool) (set : List ℕ) (i : ℕ) → length set ≤ i → IsAdding a old now set i → IsSameOn a now set
 adding-all a old now set i le f = subst (IsSameOn a now) (take_all i set le) f.same
-
--- What holds of a set stays so of a row that holds more.
-pub same-stays : (a : Automaton) (old new : List Bool) (set : List ℕ) → StaysMarked old new → IsSameOn a old set → IsSameOn a new set
-same-stays a old new set stays h =
-    All-weaker (IsSame a old) (IsSame a new)
-    (λ q each l small none. each l small (false_from_ne_true (get_or old (suc l) false) (λ t. both_ways (get_or new (suc l) false) none (stays (suc l) t)))) set h
 
 -- ---- images on letters on which the members move alike
 

@@ -9,13 +9,13 @@ use Rattle.rl_prio.specs.Automaton.{Automaton}
 use Rattle.rl_sets.specs.Live.{holds}
 use Rattle.rl_sets.specs.Walk.{Walk, set_at, IsMadeFor}
 use Rattle.rl_trim.specs.declared.store.Reached.{Reached}
-use Rattle.rl_trim.specs.Reached.{IsClosedTo, IsNoted, AreHolders, AreReached, IsStored}
+use Rattle.rl_trim.specs.Reached.{IsNoted, AreHolders, AreReached, IsStored}
 use Rattle.rl_trim.specs.internal.Sunk.{is_kept}
 use Rattle.rl_trim.specs.internal.Trims.{trimmed}
 use Rattle.rl_trim.specs.internal.Noting.{IsWide, IsNoting, AreTouched}
 use Rattle.rl_trim.specs.internal.Quick.{IsGrown, AreGone}
 use Rattle.rl_trim.proofs.SetLaws.{filter-all, holds-member, member-small}
-use Rattle.rl_trim.proofs.ClosingLaws.{closed-stays, closed-longer, stored-begun}
+use Rattle.rl_trim.proofs.ClosingLaws.{closed-stays, closed-longer}
 
 -- ---- one place of a table
 
@@ -40,14 +40,6 @@ noted-kept table q k r j lt inside h = by (cases_eq r q) (cases_eq j k)
         ∙ h
 
 -- ---- the states of one set
-
-pub noting-none : (table : List (List Bool)) (set' : ℕ) → IsNoting table table [] set'
-noting-none table set' = record {
-  high = omega arith;
-  wide = λ count each. each;
-  kept = λ q k h. h;
-  noted = λ q e. absurd (false≢true e);
-}
 
 pub noting-wide : (old mid : List (List Bool)) (states : List ℕ) (place : ℕ) → IsWide place old → IsNoting old mid states place → IsWide place mid
 noting-wide old mid states place w n = record { count = w.count; each = n.wide w.count w.each; inside = w.inside }
@@ -78,9 +70,6 @@ noting-more old mid new states i q place lt here row w n e = subst (λ (t : List
       | inl same ↦ subst (λ (s : ℕ). IsNoted (set mid q (set (get_or mid q []) place true)) s place) (eqb-true q r same) (noted-here mid q place row inside)
       | inr never ↦ absurd (false≢true never)
     ]
-
-pub noting-all : (old mid : List (List Bool)) (states : List ℕ) (i place : ℕ) → take i states ≡ states → IsNoting old mid (take i states) place → IsNoting old mid states place
-noting-all old mid states i place e n = subst (λ (l : List ℕ). IsNoting old mid l place) e n
 
 -- ---- the states of all sets
 
@@ -157,6 +146,3 @@ reached-grown a v w r g h = record { closed = closed-stays a v w r.count r.count
 pub stored-grown : (a : Automaton) (v w : Walk) (o : Option Reached) → IsGrown a v w → IsStored a v o → IsStored a w o
 stored-grown a v w None g c = closed-longer a v w 0 g c
 stored-grown a v w (Some r) g c = reached-grown a v w r g c
-
-pub reached-begun : (a : Automaton) (v w : Walk) (r : Reached) → IsGrown a v w → AreReached a v r → IsClosedTo a w 0 (length w.sets)
-reached-begun a v w r g h = stored-begun a w r.count r.count (closed-stays a v w r.count r.count g h.closed)

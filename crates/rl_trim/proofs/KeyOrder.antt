@@ -24,7 +24,6 @@ use Rattle.rl_trim.proofs.PairLaws.{inside-grown, pair-grown}
 use Rattle.rl_equiv.specs.SetPairs.{differs}
 use Rattle.rl_trim.specs.internal.Trims.{trim_differs, trim_pairs}
 use Rattle.rl_trim.specs.Reached.{IsClosedTo}
-use Rattle.rl_trim.proofs.ClosingLaws.{closed-longer}
 use Rattle.rl_trim.proofs.OrderLaws.{same-pairs, one-pair}
 use Rattle.rl_trim.proofs.TrimOrder.{trim-differs, trim-nexts}
 use Rattle.rl_trim.proofs.LookLaws.{IsLooking, looking-more, looking-stay, looking-apart}
@@ -240,9 +239,6 @@ pub pairs-start : (a : Automaton) (w : Walk) (keys : List Key) (done count : ℕ
 pairs-start a w keys done count c e =
     let p : pair_of w no_key ≡ first_pair = λ j. record { first = c.start j; second = c.start j } in
     ap (pairs_in w) e ∙ ap (λ (q : SetPair). q ∷ []) p
-
-pub walked-judged : (a b : Automaton) (v w : Walk) → b ≡ a → IsGrown b v w → IsClosedTo a v 0 (length v.sets) → IsClosedTo a w 0 (length w.sets)
-walked-judged a b v w e g c = closed-longer a v w 0 (subst (λ (x : Automaton). IsGrown x v w) e g) c
 
 -- The next pairs of one on the first letters were put behind, and what is known of the sets is right.
 pub record IsExpanding (a : Automaton) (keep : List Bool) (v w : Walk) (keys more : List Key) (r : Arrived) (place letters : ℕ) : Type 0 where

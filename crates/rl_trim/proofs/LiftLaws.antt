@@ -1,10 +1,10 @@
 -- Pairs of sets of one automaton's states are, with the kept states numbered anew, the set pairs of the whole tree and of the tree
 -- without some branches; so a cover of the former and a word that leads apart show that the latter differ.
-use Rattle.std.proofs.Common.{◌≡◌, ◌∙◌, ℕ, zero, suc, ◌+◌, ◌<◌, ◌≤◌, inl, inr, List, [], ◌∷◌, ◌++◌, length, map, filter, slice_index_or, Contains, Bool, true, false, cond, not, ◌&&◌, ◌||◌, eqb, refl, sym, ap, ap₂, subst, arith}
+use Rattle.std.proofs.Common.{◌≡◌, ◌∙◌, ℕ, zero, suc, ◌+◌, ◌<◌, ◌≤◌, inl, inr, List, [], ◌∷◌, ◌++◌, length, map, filter, slice_index_or, Bool, true, false, cond, not, ◌&&◌, ◌||◌, eqb, refl, sym, ap, ap₂, subst, arith}
 use Rattle.std.specs.List.{list_any, list_all}
 use Rattle.std.proofs.Math.Bool.{beq}
 use Rattle.std.proofs.lemmas.Bool.{cases_lt, cases_eq, eq-eqb, ne_eqb, and_parts, and_left}
-use Rattle.std.proofs.lemmas.List.{append-nil, length-map, map-append, get_or-map, get_or_past}
+use Rattle.std.proofs.lemmas.List.{append-nil, map-append, get_or_past}
 use Rattle.std.proofs.lemmas.List.Elements.{filter-append, filter_passes}
 use Rattle.std.proofs.lemmas.List.Sums.{list_all-from_AllPass}
 use Rattle.rl_ranges.specs.declared.universe.Universe.{Universe}
@@ -21,7 +21,7 @@ use Rattle.rl_sets.specs.Live.{below, holds, image}
 use Rattle.rl_sets.proofs.SetLemmas.{filter-below_suc, holds-filter}
 use Rattle.rl_equiv.specs.declared.pair.SetPair.{SetPair}
 use Rattle.rl_equiv.specs.SetPairs.{joint_sets, image_over, differs, set_pairs}
-use Rattle.rl_equiv.specs.Bases.{TellsNoMore, IsBase}
+use Rattle.rl_equiv.specs.Bases.{DistinguishesNoMore, IsBase}
 use Rattle.rl_equiv.proofs.BaseLaws.{same-stands}
 use Rattle.rl_equiv.proofs.ImageLaws.{map-below, image-over}
 use Rattle.rl_trim.specs.internal.Sunk.{kept_before, is_kept, sunk, AreSunk}
@@ -32,9 +32,6 @@ use Rattle.rl_trim.specs.internal.Trims.{trimmed, trim_on, trim_nexts, trim_diff
 pub map-twice : {A B C : Type 0} (f : B → C) (g : A → B) (xs : List A) → map f (map g xs) ≡ map (λ x. f (g x)) xs
 map-twice f g [] = refl
 map-twice {C = C} f g (x ∷ xs) = ap (λ (l : List C). f (g x) ∷ l) (map-twice f g xs)
-
-Contains-map : {A B : Type 0} (f : A → B) (xs : List A) (x : A) → Contains xs x → Contains (map f xs) (f x)
-Contains-map f xs x c = (c.0, omega (arith, length-map xs f, c.1), get_or-map f xs c.0 x (f x) c.1 ∙ ap f c.2)
 
 pub trimmed-kept : (keep : List Bool) (set : List ℕ) → list_all (is_kept keep) (trimmed keep set) ≡ true
 trimmed-kept keep set = list_all-from_AllPass (is_kept keep) (trimmed keep set) (filter_passes (is_kept keep) set)
@@ -187,7 +184,7 @@ lifted keep p = record { first = p.first; second = map (sunk keep) p.second }
 abbrev next_over : List (ℕ → Bool) → ℕ → Tree → Tree → SetPair → ℕ → SetPair
 next_over sets n t s p letter = record { first = image_over sets t n p.first letter; second = image_over sets s n p.second letter }
 
-module _ (u : Universe) (a : Automaton) (s t : Tree) (keep : List Bool) (base : IsBase u t a) (fewer : TellsNoMore t s) (are : AreSunk (joint_sets t s) (code_count u) keep s t) where
+module _ (u : Universe) (a : Automaton) (s t : Tree) (keep : List Bool) (base : IsBase u t a) (fewer : DistinguishesNoMore t s) (are : AreSunk (joint_sets t s) (code_count u) keep s t) where
   alike-joint : (c d : ℕ) → alike (all_sets t) c d ≡ alike (joint_sets t s) c d
   alike-joint c d = sym (alike-append (all_sets t) (all_sets s) c d ∙ by (alike (all_sets t) c d) refl)
     where

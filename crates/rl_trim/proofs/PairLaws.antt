@@ -306,7 +306,3 @@ none-more a v w keys place key g inside read e none i less = by (cases_lt i plac
         let same : place ≡ i = omega arith in
         subst (λ (k : ℕ). trim_differs a (pair_at v keys k) ≡ false) same
         (ap (trim_differs a) (sym (pair-grown a v w (key_at keys place) g inside)) ∙ ap (λ (k : Key). trim_differs a (pair_of w k)) read ∙ e)
-
--- Looking at a pair that has no difference goes on from a walk that has grown.
-pub look-onward : (a : Automaton) (v w x : Walk) (keys more : List Key) → IsGrown a v w → IsOnward a w x keys more → IsOnward a v x keys more
-look-onward a v w x keys more g o = onward-onward a v w x keys keys more (onward-grown a v w keys g) o

@@ -15,7 +15,7 @@ use Rattle.rl_sets.specs.Live.{below, image}
 use Rattle.rl_equiv.specs.declared.pair.SetPair.{SetPair}
 use Rattle.rl_equiv.specs.SetPairs.{joint_sets, first_pair, differs, rises, set_pairs}
 use Rattle.rl_equiv.specs.Numbering.{found_after, first_ones, NoneDiffers}
-use Rattle.rl_equiv.specs.Bases.{TellsNoMore, IsBase}
+use Rattle.rl_equiv.specs.Bases.{DistinguishesNoMore, IsBase}
 use Rattle.rl_equiv.specs.internal.Machines.{all_proper}
 use Rattle.rl_equiv.proofs.ReaderLaws.{reads}
 use Rattle.rl_equiv.proofs.RiseLaws.{rises-parts, rises-cons, rises-lower, rises-filter}
@@ -92,7 +92,7 @@ pub trim-differs : (a : Automaton) (keep : List Bool) (p : SetPair) → differs 
 unfolding trim_pairs
 trim-differs a keep p = refl
 
-module _ (u : Universe) (a : Automaton) (s t : Tree) (keep : List Bool) (base : IsBase u t a) (fewer : TellsNoMore t s) (are : AreSunk (joint_sets t s) (code_count u) keep s t) where
+module _ (u : Universe) (a : Automaton) (s t : Tree) (keep : List Bool) (base : IsBase u t a) (fewer : DistinguishesNoMore t s) (are : AreSunk (joint_sets t s) (code_count u) keep s t) where
   first-fits : Fits a keep first_pair
   first-fits =
       let proper : all_proper a (0 ∷ []) ≡ true = rises-cons 0 (accepting_state a) 0 [] (omega arith) (omega (arith, base.whole.three_states)) refl in

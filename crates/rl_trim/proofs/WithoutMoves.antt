@@ -17,7 +17,7 @@ use Rattle.rl_prio.specs.States.{place_states, state_of, accepting, dead, test_t
 use Rattle.rl_prio.proofs.ItemLemmas.{all_guarded-nil}
 use Rattle.rl_prio.proofs.KindLemmas.{one_kind}
 use Rattle.rl_sets.specs.Live.{holds}
-use Rattle.rl_equiv.specs.Bases.{TellsNoMore}
+use Rattle.rl_equiv.specs.Bases.{DistinguishesNoMore}
 use Rattle.rl_trim.specs.Without.{Without, whole, in_both, in_either, in_many, first_goes, second_goes}
 use Rattle.rl_trim.specs.internal.Sunk.{kept_before, is_kept, sunk, AreSunk}
 use Rattle.rl_trim.proofs.WithoutItems.{has_test, has_pass, and-false, absorbs_and, Ranges, wider, no_tests, ranges_first, ranges_after, count, At, here, stays, goes, inside, Same, Trim, trim_of, flags_are_places, kept_are_places, same_first, same_after, same_sets}
@@ -76,7 +76,7 @@ guards_tell (first_goes {e = e} {f = f} y h) c d x = guards_tell h c d (right_al
 guards_tell (second_goes {e = e} {f = f} y h) c d x = guards_tell h c d (left_alike (guard_sets e) (guard_sets f) c d x)
 
 -- A tree without some branches tells no more codes apart.
-pub without_tells : {keep : List Bool} {s t : Tree} → Without keep s t → TellsNoMore t s
+pub without_tells : {keep : List Bool} {s t : Tree} → Without keep s t → DistinguishesNoMore t s
 without_tells {s = s} {t = t} h = λ c d x.
     both_alike (sets_in s) (guard_sets s) c d (sets_tell h c d (left_alike (sets_in t) (guard_sets t) c d x)) (guards_tell h c d (right_alike (sets_in t) (guard_sets t) c d x))
 

@@ -1,4 +1,7 @@
-//! Sets of states with the states of a branch left out.
+//! Sets of states without the states of a branch.
+//!
+//! A branch is given by its places: the places of the tree that aren't kept. The place `p` has the state `p + 1` in the
+//! automaton of the whole tree; states that belong to no place are kept.
 
 ghost use Rattle.std.specs.Prelude.{◌≡◌, ℕ, ◌<◌, ◌≤◌, ◌⊎◌, [], length, slice_index_or, None, Some, IfOk, OnOk};
 ghost use Rattle.rl_prio.specs.Automaton.{letters_count};
@@ -15,31 +18,32 @@ use rl_prio::Prio;
 use rl_sets::{SetWalk, SetsError};
 use std::alloc::Global;
 
-/// A branch that is left out of an automaton.
+/// A branch, or several branches, that a trial leaves out of an automaton.
 #[derive(Drop)]
 pub(crate) struct Branch<'a> {
     /// The allocator.
     pub alloc: Global,
-    /// The automaton.
+    /// The automaton of the whole tree.
     pub automaton: &'a Prio,
     /// For each place, whether it is kept.
     pub keep: &'a [bool],
-    /// The states that aren't kept.
+    /// A bit for each state, which is set if the state isn't kept.
     pub gone: BitRow,
-    /// The states that the end letter leads to the accepting state.
+    /// A bit for each state, which is set if the state moves to the accepting state on the end letter.
     ending: BitRow,
     ghost are_gone: { AreGone keep.now automaton.now.states gone },
     ghost are_ending: { AreEnding automaton.now automaton.now.states ending },
 }
 
-/// The numbers of sets with the states of a branch left out, as far as a trial of the branch has found them.
+/// The numbers, in a walk, that a trial of a branch has found so far for sets without the states of the branch.
 #[derive(Drop)]
 pub(crate) struct Trims {
-    /// For each set, its number without these states.
+    /// For each set, by its number, the number of the set without these states, or `None` if it isn't known. The list may end
+    /// early.
     numbers: Vec<Option<u32>>,
 }
 
-/// Whether a state is kept.
+/// Returns whether a state is kept. Every state is, except the states of places whose flag in `keep` is false.
 pub(crate) fn is_kept(keep: &[bool], state: u32) -> bool
     ensures { result ≡ is_kept_in keep.now state }
 {
@@ -53,7 +57,7 @@ pub(crate) fn is_kept(keep: &[bool], state: u32) -> bool
     keep[place]
 }
 
-/// The states that aren't kept.
+/// Returns a row with a bit for each of the `states` states, which is set if the state isn't kept.
 fn gone_of(alloc: Global, keep: &[bool], states: u32) -> Result<BitRow, OutOfMemory>
     ensures { IfOk result (AreGone keep.now states) }
 {
@@ -66,7 +70,7 @@ fn gone_of(alloc: Global, keep: &[bool], states: u32) -> Result<BitRow, OutOfMem
     Ok(gone)
 }
 
-/// Whether the end letter leads a state to the accepting state.
+/// Returns whether a state moves to the accepting state on the end letter.
 fn state_ends(a: &Prio, state: u32) -> bool
     requires { state < a.now.states }
     ensures { result ≡ state_ends_in a.now state }
@@ -80,7 +84,7 @@ fn state_ends(a: &Prio, state: u32) -> bool
     false
 }
 
-/// The states that the end letter leads to the accepting state.
+/// Returns a row with a bit for each state, which is set if the state moves to the accepting state on the end letter.
 fn ending_of(alloc: Global, a: &Prio) -> Result<BitRow, OutOfMemory>
     ensures { IfOk result (AreEnding a.now a.now.states) }
 {
@@ -94,7 +98,7 @@ fn ending_of(alloc: Global, a: &Prio) -> Result<BitRow, OutOfMemory>
     Ok(ending)
 }
 
-/// The number of the image of a set on a letter.
+/// Returns the number of the image of a set on a letter or the end letter. The image is appended to the walk if it is new.
 pub(crate) fn step(walk: &mut SetWalk, a: &Prio, set: u32, letter: u32) -> Result<u32, SetsError>
     requires made { IsMadeFor walk.old a.now }
     requires set_in { set < length walk.old.sets }
@@ -105,7 +109,7 @@ pub(crate) fn step(walk: &mut SetWalk, a: &Prio, set: u32, letter: u32) -> Resul
 }
 
 impl Trims {
-    /// None yet.
+    /// Returns the value for a trial that has found no numbers yet. It allocates no memory.
     pub(crate) fn new(alloc: Global) -> Trims
         ensures { result.numbers.items ≡ [] }
     {
@@ -114,7 +118,7 @@ impl Trims {
         }
     }
 
-    /// The number for a set, if it was found.
+    /// Returns the number of the set `set` without the states of the branch, or `None` if it isn't known.
     fn known(&self, set: u32) -> Option<u32>
         ensures { result ≡ slice_index_or self.now.numbers.items set None }
     {
@@ -124,7 +128,7 @@ impl Trims {
         }
     }
 
-    /// Notes the number for a set.
+    /// Records `number` as the number of the set `set` without the states of the branch.
     fn note(&mut self, set: u32, number: u32) -> Result<(), OutOfMemory>
         ensures { OnOk result ((k n : ℕ) → slice_index_or self.new.numbers.items k None ≡ Some n
             → (slice_index_or self.old.numbers.items k None ≡ Some n) ⊎ ((k ≡ set) × (n ≡ number))) }
@@ -139,7 +143,8 @@ impl Trims {
 }
 
 impl<'a> Branch<'a> {
-    /// The branch made up of the places that aren't kept.
+    /// Returns the branch that consists of the places whose flag in `keep` is false. There is one flag for each place of the
+    /// tree, from left to right; places without a flag are kept.
     pub(crate) fn new(
         alloc: Global,
         automaton: &'a Prio,
@@ -162,7 +167,8 @@ impl<'a> Branch<'a> {
         })
     }
 
-    /// Finds the number of a set with the states that aren't kept left out. The function isn't inlined, so that `trim` stays small.
+    /// Returns the number of the set `set` without the states that aren't kept; this set is appended to the walk if it is new.
+    /// The function isn't inlined, so that `trim` stays small.
     #[inline(never)]
     fn leave_out(&self, walk: &mut SetWalk, set: u32) -> Result<u32, SetsError>
         requires made { IsMadeFor walk.old self.now.automaton.now }
@@ -176,7 +182,8 @@ impl<'a> Branch<'a> {
         Ok(number)
     }
 
-    /// The number of a set with the states that aren't kept left out. Each set's number is found only once.
+    /// Returns the number of the set `set` without the states that aren't kept. It is looked up in `trims`, or found and
+    /// recorded there; a set that is new is appended to the walk.
     pub(crate) fn trim(
         &self,
         walk: &mut SetWalk,
@@ -197,7 +204,8 @@ impl<'a> Branch<'a> {
         Ok(number)
     }
 
-    /// The next pair of a pair on a letter.
+    /// Returns the next pair of the pair `key` on a letter other than the end letter: the image of its first set, and the
+    /// image of its second set without the states that aren't kept. Sets that are new are appended to the walk.
     pub(crate) fn next(
         &self,
         walk: &mut SetWalk,
@@ -223,18 +231,18 @@ impl<'a> Branch<'a> {
         Ok(Key { first, second })
     }
 
-    /// Whether the end letter leads a set to the accepting state.
+    /// Returns whether some member of a set moves to the accepting state on the end letter.
     fn ends(&self, walk: &SetWalk, set: u32) -> bool
         requires made { IsMadeFor walk.now self.now.automaton.now }
         requires set_in { set < length walk.now.sets }
         ensures { result ≡ set_ends self.now.automaton.now (set_at walk.now set) }
     {
-        // Reading the number of states shows that it is a whole automaton.
+        // Reading the number of states tells the prover that the automaton is well formed.
         let _states = self.automaton.states();
         walk.meets(set, &self.ending)
     }
 
-    /// Whether the end letter leads exactly one set of a pair to the accepting state.
+    /// Returns whether a pair shows a difference: the end letter leads exactly one of its two sets to the accepting state.
     pub(crate) fn differs(&self, walk: &SetWalk, key: Key) -> bool
         requires made { IsMadeFor walk.now self.now.automaton.now }
         requires inside { IsInside walk.now key }

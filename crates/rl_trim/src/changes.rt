@@ -1,4 +1,5 @@
-//! Finds the letters on which states move differently than on the letter before.
+//! Finds the changes of states: the letters on which a state has other moves than on the letter before. The first letter,
+//! which has none before it, and the end letter are no changes.
 
 ghost use Rattle.std.specs.Prelude.{◌≡◌, ◌<◌, false, length, slice_index_or, IfOk, OnOk};
 ghost use Rattle.rl_sets.specs.Walk.{set_at, IsMadeFor};
@@ -12,14 +13,15 @@ use rl_prio::Prio;
 use rl_sets::SetWalk;
 use std::alloc::Global;
 
-/// For each state, the letters on which it moves differently than on the letter before.
+/// The changes of all states of an automaton.
 #[derive(Drop)]
 pub(crate) struct Changes {
-    /// A row for each state, with a place for each letter.
+    /// A row for each state, in the order of the states. It has a bit for each letter, without the end letter, which is set if
+    /// the letter is a change of the state.
     pub rows: Vec<BitRow>,
 }
 
-/// The letters on which a state moves differently than on the letter before.
+/// Returns the row of the changes of a state: the letters on which it has other moves than on the letter before.
 fn changes_of(alloc: Global, a: &Prio, state: u32) -> Result<BitRow, OutOfMemory>
     requires { state < a.now.states }
     ensures wide { IfOk result (IsWide a.now) }
@@ -35,7 +37,7 @@ fn changes_of(alloc: Global, a: &Prio, state: u32) -> Result<BitRow, OutOfMemory
     Ok(row)
 }
 
-/// The changes of all states.
+/// Returns the changes of all states of an automaton.
 fn all_changes(alloc: Global, a: &Prio) -> Result<Changes, OutOfMemory>
     ensures { IfOk result (AreChanges a.now) }
 {
@@ -47,7 +49,7 @@ fn all_changes(alloc: Global, a: &Prio) -> Result<Changes, OutOfMemory>
     Ok(Changes { rows })
 }
 
-/// The changes found earlier, if there are any; otherwise those of all states.
+/// Returns the changes `found` earlier, if they are given; otherwise finds the changes of all states of the automaton `a`.
 pub(crate) fn changes_or(
     alloc: Global,
     a: &Prio,
@@ -62,7 +64,8 @@ pub(crate) fn changes_or(
     }
 }
 
-/// Adds the letters on which a member of a set moves differently than on the letter before.
+/// Sets in the row the bits of the letters that are changes of some member of the set with the number `set`. Other bits stay
+/// as they are.
 fn add_changes(
     row: &mut BitRow,
     changes: &Changes,
@@ -85,7 +88,7 @@ fn add_changes(
     Ok(())
 }
 
-/// The letters on which a member of either set of a pair moves differently than on the letter before.
+/// Returns the row of the letters that are changes of some member of the first or the second set of a pair.
 pub(crate) fn changes_on(
     alloc: Global,
     changes: &Changes,
@@ -109,7 +112,8 @@ pub(crate) fn changes_on(
     Ok(row)
 }
 
-/// Whether a letter is marked in a row of changes. The first letter has no letter before it and always counts as marked.
+/// Returns whether the bit of a letter is set in a row of changes. For the first letter, which has none before it, returns
+/// true.
 pub(crate) fn is_changed(row: &BitRow, letter: u32) -> bool
     requires { letter < length row.now }
     ensures { result ≡ false → (0 < letter) × (slice_index_or row.now letter false ≡ false) }

@@ -1,4 +1,4 @@
-//! Finds the sets that hold a state of a branch.
+//! Finds the sets of a walk that hold a state of a branch, by a table that says for each state which sets hold it.
 
 ghost use Rattle.std.specs.Prelude.{◌≡◌, ◌<◌, ◌≤◌, length, All, IfOk};
 ghost use Rattle.rl_sets.specs.Walk.{IsMadeFor};
@@ -12,7 +12,8 @@ use rl_prio::Prio;
 use rl_sets::SetWalk;
 use std::alloc::Global;
 
-/// Notes that a set holds states.
+/// Notes in the table, which has a row for each state and in it a bit for each set, that the set with the number `set` holds
+/// each of `states`.
 fn note(table: &mut BitTable, states: &[u32], set: u32)
     requires rows { All (λ q. q < length table.old) states.now }
     requires wide { IsWide set table.old }
@@ -23,7 +24,8 @@ fn note(table: &mut BitTable, states: &[u32], set: u32)
     }
 }
 
-/// For each state, which of the first `count` sets of a walk hold it.
+/// Returns a table that has a row for each state, with a bit for each of the first `count` sets of the walk, which is set if
+/// the set holds the state. The walk must have at least `count` sets.
 pub(crate) fn holders_of(
     alloc: Global,
     a: &Prio,
@@ -42,7 +44,8 @@ pub(crate) fn holders_of(
     Ok(table)
 }
 
-/// Which of the first `count` sets of a walk hold a state that isn't kept.
+/// Returns a row with a bit for each of the first `count` sets of the walk, which is set if the set holds a state of the
+/// branch, that is, a state that isn't kept. `holders` is the table of these sets that [`holders_of`] returns.
 pub(crate) fn touched_sets(
     alloc: Global,
     branch: &Branch,

@@ -1,4 +1,8 @@
-//! Trials that look at pairs in the order of the set pairs of both trees, and so have the result of a plain comparison.
+//! Trials in order, which look at pairs breadth first, letter by letter, as a comparison of both trees looks at their set
+//! pairs, and so have the same result.
+//!
+//! The root pair of a set is the set and the same set without the states of the branch. The place of a pair is its index in
+//! the list of the pairs found, from 0.
 
 ghost use Rattle.std.specs.Prelude.{◌≡◌, ◌<◌, ◌⊎◌, ◌∷◌, [], ℕ, true, false, length, replicate, slice_index_or, IfOk, OnOk};
 ghost use Rattle.rl_prio.specs.Automaton.{letters_count};
@@ -22,18 +26,20 @@ use rl_lists::OutOfMemory;
 use rl_sets::{SetWalk, SetsError};
 use std::alloc::Global;
 
-/// From how many letters on it is worth finding out on which of them states move differently than on the letter before.
+/// The least number of letters for which it is worth finding out on which of them states have other moves than on the letter
+/// before.
 const MANY_LETTERS: u32 = 16;
 
-/// The number of first places whose next pairs are found on every letter.
+/// For the pairs at this many first places, the next pairs are found on every letter, without finding out which letters can be
+/// skipped.
 const PLAIN_PLACES: usize = 100;
 
-/// What is known of the sets that the search arrived at.
+/// What is known of the sets that the search has found.
 #[derive(Drop)]
 pub(crate) struct Arrived {
-    /// The sets whose pair with themselves without the branch was found as the next pair of a set with itself.
+    /// A bit for each number of a set, which is set only if the root pair of the set has been found.
     pub whole: BitRow,
-    /// The numbers of sets without the branch.
+    /// The numbers found so far of sets without the states of the branch.
     pub trims: Trims,
 }
 
@@ -42,12 +48,13 @@ pub(crate) struct Arrived {
 pub(crate) struct Order {
     /// The pairs.
     pub keys: IndexSet<Key>,
-    /// What is known of their sets.
+    /// What is known of the sets of the pairs.
     pub arrived: Arrived,
 }
 
 impl Order {
-    /// Only the first pair.
+    /// Returns the search that has found only the first pair, in which both sets are the set with the number 0, the set of
+    /// only the start.
     pub(crate) fn new(alloc: Global) -> Result<Order, OutOfMemory>
         ensures keys { IfOk result (λ o. o.keys.keys ≡ no_key ∷ []) }
         ensures whole { IfOk result (λ o. o.arrived.whole ≡ replicate MOST_SETS false) }
@@ -71,7 +78,7 @@ impl Order {
         Ok(Order { keys, arrived })
     }
 
-    /// Whether a set's pair with itself without the branch is noted as found.
+    /// Returns whether the root pair of the set with the number `set` is noted as found.
     fn has_arrived(&self, set: u32) -> bool
         ensures { result ≡ true → slice_index_or self.now.arrived.whole set false ≡ true }
     {
@@ -81,7 +88,7 @@ impl Order {
         self.arrived.whole.get(set as usize)
     }
 
-    /// Notes that a set's pair with itself without the branch was found.
+    /// Notes that the root pair of the set with the number `set` was found. Does nothing if the row has no bit for the set.
     fn note(&mut self, set: u32)
         ensures whole { (k : ℕ) → slice_index_or self.new.arrived.whole k false ≡ true → (slice_index_or self.old.arrived.whole k false ≡ true) ⊎ (k ≡ set) }
         ensures trims { self.new.arrived.trims ≡ self.old.arrived.trims }
@@ -93,7 +100,7 @@ impl Order {
         self.arrived.whole.set(set as usize, true);
     }
 
-    /// Appends a pair unless it is already there.
+    /// Appends the pair `key` unless it is already there.
     fn put(&mut self, key: Key) -> Result<(), OutOfMemory>
         ensures keys { OnOk result (self.new.keys.keys ≡ with_key self.old.keys.keys key) }
         ensures arrived { self.new.arrived ≡ self.old.arrived }
@@ -102,7 +109,8 @@ impl Order {
         Ok(())
     }
 
-    /// Appends the next pair of a set with itself, on a letter, unless it is already there. A noted set is skipped at once.
+    /// Appends the next pair, on a letter, of the pair `key`, both of whose sets are the same, unless it is already there. The
+    /// next pair is the root pair of the set's image, so nothing is looked up if this root pair is noted as found.
     fn visit_whole(
         &mut self,
         branch: &Branch,
@@ -131,7 +139,7 @@ impl Order {
         Ok(())
     }
 
-    /// Appends the next pair of the one at a place, on a letter, unless it is already there.
+    /// Appends the next pair, on a letter, of the pair at a place, unless it is already there.
     fn visit(
         &mut self,
         branch: &Branch,
@@ -158,7 +166,7 @@ impl Order {
         Ok(())
     }
 
-    /// Appends the next pairs of the one at a place, letter by letter in order.
+    /// Appends the next pairs of the pair at a place, on each letter in order, unless they are already there.
     fn expand_each(
         &mut self,
         branch: &Branch,
@@ -180,8 +188,8 @@ impl Order {
         Ok(())
     }
 
-    /// The same, using the letters on which states move differently than on the letter before. On every other letter the next
-    /// pair is that of the letter before, so it is skipped.
+    /// Appends the next pairs of the pair at a place as `expand_each` does, but skips the letters on which no state of its
+    /// sets has other moves than on the letter before: on such a letter, the next pair is the same as on the letter before.
     fn expand_changed(
         &mut self,
         branch: &Branch,
@@ -209,8 +217,9 @@ impl Order {
         Ok(())
     }
 
-    /// The same. At the first places and for few letters, the next pairs are found on every letter; after that, only on letters
-    /// on which states move differently than on the letter before.
+    /// Appends the next pairs of the pair at a place, on each letter in order, unless they are already there. At the first
+    /// `PLAIN_PLACES` places, and if there are fewer than `MANY_LETTERS` letters, no letter is skipped; otherwise
+    /// `expand_changed` is used, and the changes that it needs are found and kept in `changes` if they aren't there yet.
     fn expand(
         &mut self,
         branch: &Branch,
@@ -238,7 +247,8 @@ impl Order {
         expanded
     }
 
-    /// Whether the pair at a place shows a difference.
+    /// Returns whether the pair at a place shows a difference: the end letter leads exactly one of its sets to the accepting
+    /// state.
     fn differs(&self, branch: &Branch, walk: &SetWalk, place: usize) -> bool
         requires keys { AreKeys branch.now.automaton.now walk.now self.now.keys.keys }
         requires place_in { place < length self.now.keys.keys }
@@ -247,8 +257,10 @@ impl Order {
         branch.differs(walk, self.keys[place])
     }
 
-    /// Looks at the first `limit` pairs one after another, up to the first one that shows a difference. Once more than `limit`
-    /// pairs are found, no further ones are searched for.
+    /// Carries out the trial: looks at the first `limit` pairs one after another, and appends the next pairs of each. Returns
+    /// `Apart` as soon as one of them shows a difference, `Equal` if there are no more than `limit` pairs and none does, and
+    /// `Passed` otherwise. Once more than `limit` pairs are found, no further ones are searched for. The search must have
+    /// found only the first pair yet.
     pub(crate) fn judge(
         &mut self,
         branch: &Branch,

@@ -1,4 +1,9 @@
-//! Finds pairs of sets that cover everything the whole automaton and the one without a branch reach.
+//! Finds the pairs of sets that a quick trial looks at.
+//!
+//! The first set of a pair is reached by the whole automaton, the second one by the automaton without the branch. The root
+//! pair of a set is the set and the same set without the states of the branch. The search begins with the root pairs of all
+//! sets reached from the start. If no pair shows a difference, it finds each pair that can be reached from the pair of the two
+//! starts, except pairs of a set reached from the start and this same set. It may also find pairs that can't be reached.
 
 ghost use Rattle.std.specs.Prelude.{◌≡◌, ◌+◌, ◌<◌, true, None, length, IfOk, OnOk};
 ghost use Rattle.rl_prio.specs.Automaton.{letters_count};
@@ -15,25 +20,26 @@ use rl_lists::OutOfMemory;
 use rl_sets::{SetWalk, SetsError};
 use std::alloc::Global;
 
-/// The most pairs to look at.
+/// A search that finds this many pairs or more is given up.
 const MOST_PAIRS: usize = 10_000;
 
-/// The pairs found so far, in any order. The pair of a set reached from the start with itself isn't stored: it shows no
-/// difference, and its next pairs are sets reached from the start, each paired with itself without the branch.
+/// The pairs found so far. The pair of a set reached from the start and this same set isn't stored: it shows no difference,
+/// and its next pairs are root pairs of sets reached from the start.
 #[derive(Drop)]
 pub(crate) struct Pairs {
-    /// How many sets are reached from the start.
+    /// How many sets are reached from the start. They are the first sets of the walk.
     pub count: u32,
-    /// The pairs. The first ones are the sets that hold a state of the branch, each paired with itself without the branch.
+    /// The pairs. The first ones are the root pairs of the sets that are reached from the start and hold a state of the
+    /// branch.
     pub keys: IndexSet<Key>,
-    /// How each pair was found.
+    /// How each pair was found. A root pair has its own place as its parent.
     pub ways: Vec<Way>,
-    /// The numbers of sets without the branch.
+    /// The numbers found so far of sets without the states of the branch.
     pub trims: Trims,
 }
 
 impl Pairs {
-    /// Appends a pair unless it is already there.
+    /// Appends a pair unless it is already there. It was found on `letter` from the pair at `place`.
     fn add(&mut self, key: Key, place: usize, letter: u32) -> Result<(), OutOfMemory>
         ensures put { OnOk result (IsPut self.old.keys.keys self.new.keys.keys key) }
         ensures count { self.new.count ≡ self.old.count }
@@ -48,7 +54,8 @@ impl Pairs {
         Ok(())
     }
 
-    /// Appends the pair of a set and that set without the branch, if the set holds a state of the branch.
+    /// Appends the root pair of the set with the number `set` if the set's bit in the row `touched` is set, that is, if it
+    /// holds a state of the branch.
     fn plant(
         &mut self,
         branch: &Branch,
@@ -77,7 +84,8 @@ impl Pairs {
         Ok(())
     }
 
-    /// The sets that are reached from the start and hold a state of the branch, each paired with itself without the branch.
+    /// Returns the pairs with which a search begins: the root pair of each of the first `count` sets that holds a state of the
+    /// branch. The row `touched` says which sets these are; the first `count` sets are the sets reached from the start.
     pub(crate) fn new(
         alloc: Global,
         branch: &Branch,
@@ -104,7 +112,8 @@ impl Pairs {
         Ok(pairs)
     }
 
-    /// Appends the next pair of the one at a place, on a letter, unless it is already there or pairs a set with itself.
+    /// Appends the next pair, on a letter, of the pair at a place, unless it is already there, or both its sets are the same
+    /// set reached from the start.
     fn visit(
         &mut self,
         branch: &Branch,
@@ -132,7 +141,7 @@ impl Pairs {
         Ok(())
     }
 
-    /// Appends the next pairs of the one at a place, letter by letter in order.
+    /// Appends the next pairs of the pair at a place, on each letter in order, as [`Pairs::visit`] does.
     fn expand(&mut self, branch: &Branch, walk: &mut SetWalk, place: usize) -> Result<(), SetsError>
         requires pairs { ArePairs branch.now.automaton.now branch.now.keep.now walk.old self.old.count self.old.keys.keys }
         requires place_in { place < length self.old.keys.keys }
@@ -168,7 +177,8 @@ impl Pairs {
         Ok(())
     }
 
-    /// Looks at all pairs. Returns false if there are too many.
+    /// Looks at the pairs one after another, including those that are appended meanwhile. Returns true once all were looked
+    /// at, or false if there are `MOST_PAIRS` or more.
     pub(crate) fn grow(&mut self, branch: &Branch, walk: &mut SetWalk) -> Result<bool, SetsError>
         requires pairs { ArePairs branch.now.automaton.now branch.now.keep.now walk.old self.old.count self.old.keys.keys }
         requires trims { AreTrims branch.now.keep.now walk.old self.old.trims }
@@ -188,7 +198,7 @@ impl Pairs {
         Ok(false)
     }
 
-    /// The place of the first pair that shows a difference, if there is one.
+    /// Returns the place of the first pair that shows a difference, or `None` if none does.
     pub(crate) fn apart(&self, branch: &Branch, walk: &SetWalk) -> Option<usize>
         requires { ArePairs branch.now.automaton.now branch.now.keep.now walk.now self.now.count self.now.keys.keys }
         ensures { result ≡ None → NoneApart branch.now.automaton.now walk.now self.now.keys.keys (length self.now.keys.keys) }

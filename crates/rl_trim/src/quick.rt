@@ -1,5 +1,5 @@
-//! Trials that look at pairs in any order, and so at fewer of them. If the pairs and the sets reached from the start together don't
-//! exceed the limit, such a trial has the same result as one in order.
+//! Quick trials, which look at pairs in any order, and so at fewer of them. A quick trial decides only if the pairs and the
+//! sets reached from the start together don't exceed the limit. It then has the same result as a trial in order.
 
 ghost use Rattle.std.specs.Prelude.{IfOk, OnOk, IfSome};
 ghost use Rattle.rl_trim.specs.Judged.{IsFound};
@@ -17,7 +17,9 @@ use crate::word::{leads_apart, word_to};
 use rl_sets::{SetWalk, SetsError};
 use std::alloc::Global;
 
-/// The result after looking at all pairs, if they decide the trial.
+/// Finds and looks at all pairs, and returns the result of the trial. Returns `None` if this doesn't decide it: if there are
+/// too many pairs, or if the word by which a pair that shows a difference was found leads from the pair of the two starts to
+/// no difference. `ways` says how the sets reached from the start were found.
 fn judge_pairs(
     alloc: Global,
     branch: &Branch,
@@ -46,7 +48,8 @@ fn judge_pairs(
     Ok(None)
 }
 
-/// The result of a quick trial, if it decides the trial.
+/// Returns the result of a quick trial of a branch, or `None` if it doesn't decide. `reached` are the sets of the walk that
+/// are reached from the start.
 pub(crate) fn quick_trial(
     alloc: Global,
     branch: &Branch,

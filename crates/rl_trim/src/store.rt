@@ -1,4 +1,8 @@
-//! The sets of states that trials on one automaton share.
+//! The sets of states, and other findings, that trials on one automaton share.
+//!
+//! The sets reached from the start are the set of only the start state and all sets reached from it by images on letters,
+//! without the end letter. A trial in order looks at pairs of sets breadth first; a quick trial looks at them in any order and
+//! needs the sets reached from the start.
 
 ghost use Rattle.std.specs.Prelude.{◌≡◌, ◌+◌, ◌<◌, None, length, IfOk, OnOk};
 ghost use Rattle.rl_prio.specs.Automaton.{letters_count};
@@ -16,65 +20,67 @@ use rl_prio::Prio;
 use rl_sets::{SetWalk, SetsError};
 use std::alloc::Global;
 
-/// The most sets in a walk.
+/// The most sets that the walk of a store may have.
 pub(crate) const MOST_SETS: u32 = 60_000;
 
-/// The most sets reached from the start. If there are more, quick trials aren't worth it.
+/// A repeated search for the sets reached from the start gives up if there are this many or more, as quick trials aren't worth
+/// it then. It isn't begun if the walk already has more sets.
 pub(crate) const MOST_REACHED: u32 = 10_000;
 
-/// The most sets that a walk may have when a trial in order begins. If there are more, the trial could run out of room and would
-/// have to start again.
+/// The most sets that a walk may have before a trial if the sets reached from the start aren't known. A walk with more is
+/// begun anew, as the trial could run out of room and would have to be repeated.
 const MOST_SHARED: u32 = 30_000;
 
-/// How many pairs trials in order may look at before the sets reached from the start are searched for again.
+/// How many pairs trials in order may find before the sets reached from the start are searched for again.
 const MOST_LOOKED: usize = 200_000;
 
-/// The sets reached from the start. They are the first sets of a walk.
+/// The sets reached from the start. They are the first `count` sets of a walk.
 #[derive(Drop)]
 pub(crate) struct Reached {
-    /// How many there are.
+    /// The number of these sets.
     pub count: u32,
-    /// For each state, which of these sets hold it.
+    /// A table with a row for each state, with a bit for each of these sets, which is set if the set holds the state.
     pub holders: BitTable,
-    /// How each of these sets was found.
+    /// How each of these sets was found, by the number of the set.
     pub ways: Vec<Way>,
 }
 
-/// The result of the trial that leaves nothing out of an automaton.
+/// The result of the trial that leaves nothing out, which compares an automaton with itself.
 #[derive(Clone, Copy)]
 pub(crate) struct Whole {
-    /// The limit of that trial.
+    /// The most set pairs that the trial was allowed.
     pub limit: u32,
-    /// Its result.
+    /// The result of the trial.
     pub found: Judgement,
 }
 
 /// What trials have found out about an automaton, other than its sets.
 #[derive(Drop)]
 pub(crate) struct Known {
-    /// The targets of its states, if they were asked for.
+    /// The targets of the automaton's states, if a trial needed them.
     pub targets: Option<Targets>,
-    /// The result of the trial that leaves nothing out, if there was one.
+    /// The result of the last trial that leaves nothing out, if there was one.
     pub whole: Option<Whole>,
 }
 
-/// The sets that trials have found so far.
+/// What trials on an automaton have found so far.
 #[derive(Drop)]
 pub(crate) struct Store {
-    /// The walk that holds them.
+    /// The walk with the sets found. Its first set is the set of only the start.
     pub walk: SetWalk,
-    /// Those reached from the start, unless there are too many.
+    /// The sets reached from the start, or `None` if they aren't known, for example because there are too many.
     pub reached: Option<Reached>,
-    /// How many pairs trials in order may still look at before these are searched for again.
+    /// How many pairs trials in order may still find before the sets reached from the start are searched for again.
     pub patience: usize,
-    /// What they have found out about the automaton besides.
+    /// What else trials have found out about the automaton.
     pub known: Known,
 }
 
-/// A walk that holds only the start.
+/// Returns a walk over sets of states of an automaton with one set, the set of only the start.
 fn begin(alloc: Global, a: &Prio) -> Result<SetWalk, SetsError>
     ensures { IfOk result (λ w. IsClosedTo a.now w 0 (length w.sets)) }
 {
+    // Reading the number of states tells the prover that the automaton is well formed.
     let _states = a.states();
     let start = vec![in alloc; 0]?;
     let mut walk = SetWalk::new(alloc, a, MOST_SETS)?;
@@ -87,7 +93,8 @@ fn begin(alloc: Global, a: &Prio) -> Result<SetWalk, SetsError>
     }
 }
 
-/// Appends the image of a set on a letter unless it is already there, and notes how it was found.
+/// Appends the image of the set with the number `set` on a letter to the walk, and how it was found to `ways`, unless the walk
+/// already has it. The list `ways` must have an entry for each set of the walk.
 fn step(
     walk: &mut SetWalk,
     ways: &mut Vec<Way>,
@@ -111,7 +118,8 @@ fn step(
     Ok(())
 }
 
-/// Appends the images of a set, letter by letter in order.
+/// Appends the images of the set with the number `set`, on each letter in order without the end letter, unless the walk
+/// already has them. Appends to `ways` how each new set was found.
 fn expand(walk: &mut SetWalk, ways: &mut Vec<Way>, a: &Prio, set: u32) -> Result<(), SetsError>
     requires closed { IsClosedTo a.now walk.old set (length walk.old.sets) }
     requires set_in { set < length walk.old.sets }
@@ -123,7 +131,8 @@ fn expand(walk: &mut SetWalk, ways: &mut Vec<Way>, a: &Prio, set: u32) -> Result
     Ok(())
 }
 
-/// Finds all sets reached from the start. Returns `None` if there are `most` or more. The walk must hold only the start.
+/// Finds all sets reached from the start and returns them, or `None` if there are `most` or more. The walk must have only the
+/// set of the start; the sets found are appended to it.
 fn reach(
     alloc: Global,
     a: &Prio,
@@ -154,7 +163,7 @@ fn reach(
 }
 
 impl Known {
-    /// Nothing yet.
+    /// Returns the value for an automaton of which nothing is known yet.
     pub(crate) fn nothing() -> Known
         ensures targets { result.targets ≡ None }
         ensures whole { result.whole ≡ None }
@@ -167,7 +176,7 @@ impl Known {
 }
 
 impl Store {
-    /// Only the start, with what is known of the automaton.
+    /// Returns a store whose walk has only the set of the start. What else is known of the automaton is given by `known`.
     pub(crate) fn begun(alloc: Global, a: &Prio, known: Known) -> Result<Store, SetsError>
         requires { IsKnown a.now known }
         ensures { IfOk result (IsStore a.now) }
@@ -181,22 +190,25 @@ impl Store {
         })
     }
 
-    /// The sets reached from the start if there are fewer of them than states, otherwise only the first of them. If there are more,
-    /// trials in order are usually faster.
+    /// Returns the first store for an automaton, of which nothing is known yet. It has the sets reached from the start if
+    /// there are fewer of them than states. If there are as many or more, trials in order are usually faster, so the search
+    /// for them stops.
     ///
     /// # Errors
-    /// Those of [`Store::closed`].
+    /// The errors of [`Store::closed`].
     pub(crate) fn first(alloc: Global, a: &Prio) -> Result<Store, SetsError>
         ensures { IfOk result (IsStore a.now) }
     {
         Store::closed(alloc, a, a.states(), MOST_LOOKED, Known::nothing())
     }
 
-    /// These sets, or sets to start anew with: only the start if there is little room left for trials in order, and the sets reached
-    /// from the start after trials in order have looked at many pairs. What is known of the automaton besides is kept.
+    /// Returns the store with which the next trial begins: usually this store. If its walk has little room left for a trial in
+    /// order (see `MOST_SHARED`), it is a store with only the set of the start. If trials in order have found `MOST_LOOKED`
+    /// pairs or more since the store was made and the walk has at most `MOST_REACHED` sets, the sets reached from the start
+    /// are searched for again, and `patience` is then practically unlimited. What else is known of the automaton is kept.
     ///
     /// # Errors
-    /// Those of [`Store::closed`].
+    /// The errors of [`Store::closed`].
     pub(crate) fn refreshed(self, alloc: Global, a: &Prio) -> Result<Store, SetsError>
         requires { IsStore a.now self }
         ensures { IfOk result (IsStore a.now) }
@@ -210,11 +222,12 @@ impl Store {
         Store::closed(alloc, a, MOST_REACHED, usize::MAX, self.known)
     }
 
-    /// The sets reached from the start, or only the first of them if there are `most` or more, with what is known of the automaton
-    /// besides.
+    /// Returns a store with the sets reached from the start. If there are `most` or more of them, they don't count as known,
+    /// and the walk has only those found so far. The other values of the store are `patience` and `known`.
     ///
     /// # Errors
-    /// [`SetsError::Sets`] if there are more than a walk can hold, and [`SetsError::OutOfMemory`] if there was no memory for them.
+    /// [`SetsError::Sets`] if more sets are found than a walk may have (`MOST_SETS`); [`SetsError::OutOfMemory`] if there is
+    /// not enough memory for them.
     fn closed(
         alloc: Global,
         a: &Prio,

@@ -1,4 +1,8 @@
 //! Compares a tree with the same tree without some of its branches.
+//!
+//! A trial leaves the states of a branch out of the automaton of the tree, and compares what both accept. A trial in order
+//! looks at the pairs of sets breadth first; a quick trial looks at them in any order, and may not decide. The store has the
+//! sets of states that earlier trials found.
 
 ghost use Rattle.std.specs.Prelude.{◌≡◌, true, length, [], IfOk, OnOk, IfSome};
 ghost use Rattle.rl_ranges.specs.declared.universe.Universe.{Universe as AnyUniverse};
@@ -7,7 +11,7 @@ ghost use Rattle.rl_equiv.specs.Bases.{IsBase};
 ghost use Rattle.rl_equiv.specs.Limits.{IsWithin};
 ghost use Rattle.rl_equiv.specs.SetPairs.{set_pairs};
 ghost use Rattle.rl_trim.specs.Without.{Without};
-ghost use Rattle.rl_trim.specs.Judged.{IsJudged, IsFound, IsTold};
+ghost use Rattle.rl_trim.specs.Judged.{IsJudged, IsFound, IsTrueJudgement};
 ghost use Rattle.rl_trim.specs.Reached.{IsClosedTo, IsStore, IsStoreIf};
 ghost use Rattle.rl_trim.specs.internal.Trims.{trim_pairs};
 ghost use Rattle.rl_trim.specs.internal.Quick.{IsGrown};
@@ -31,8 +35,9 @@ use std::marker::Model;
 /// The automaton of a tree, matched whole, on which trials of its branches run one after another.
 #[derive(Drop)]
 pub struct Trimmer {
+    /// The automaton of the tree.
     automaton: Prio,
-    /// The sets that trials have found so far, unless there was no room for them.
+    /// What trials have found so far, or `None` if there was no room for it or the last trial gave no result.
     store: Option<Store>,
 }
 
@@ -47,7 +52,7 @@ impl Model for Trimmer {
     ghost invariant = { λ t. IsStoreIf t.automaton t.store };
 }
 
-/// The sets of an automaton reached from the start, if there is room for them.
+/// Returns the first store for an automaton (see [`Store::first`]), or `None` if its walk would have too many sets.
 fn close(alloc: Global, a: &Prio) -> Result<Option<Store>, OutOfMemory>
     ensures { IfOk result (IsStoreIf a.now) }
 {
@@ -58,7 +63,8 @@ fn close(alloc: Global, a: &Prio) -> Result<Option<Store>, OutOfMemory>
     }
 }
 
-/// The result of a trial that looks at the pairs in order.
+/// Returns the result of a trial of the branch in order, and lowers `patience` by the number of pairs found, to 0 at least.
+/// `limit` is the most pairs that the trial may look at.
 fn trial_in_order(
     alloc: Global,
     branch: &Branch,
@@ -77,7 +83,8 @@ fn trial_in_order(
     found
 }
 
-/// The result of a quick trial, if the sets reached from the start are known and it decides the trial.
+/// Returns the result of a quick trial of the branch, or `None` if the sets reached from the start aren't known or it doesn't
+/// decide.
 fn quick_trial_in(
     alloc: Global,
     branch: &Branch,
@@ -95,7 +102,8 @@ fn quick_trial_in(
     Ok(told)
 }
 
-/// The result of the trial that leaves nothing out: the one found earlier, if there is one for this limit.
+/// Returns the result of the trial that leaves nothing out: the result kept in the store, if it is for this limit. Otherwise
+/// carries out the trial in order and keeps its result.
 fn whole_trial(
     alloc: Global,
     store: &mut Store,
@@ -117,7 +125,8 @@ fn whole_trial(
     Ok(found)
 }
 
-/// Whether a branch has an equal one beside it, as far as a short search shows.
+/// Returns whether a branch has an equal branch beside it, as far as [`has_twin`] finds one. The targets that it needs are
+/// kept in the store.
 fn finds_twin(alloc: Global, branch: &Branch, store: &mut Store) -> Result<bool, OutOfMemory>
     requires { IsStore branch.now.automaton.now store.old }
     ensures twin { IfOk result (λ told. told ≡ true → HasTwin branch.now.automaton.now branch.now.keep.now) }
@@ -129,8 +138,9 @@ fn finds_twin(alloc: Global, branch: &Branch, store: &mut Store) -> Result<bool,
     Ok(told)
 }
 
-/// The result of a trial: of a quick one if that decides. Otherwise it is that of the trial that leaves nothing out if the branch
-/// has an equal one beside it, and that of one in order if not.
+/// Returns the result of a trial of a branch. A quick trial is carried out first. If it doesn't decide, the result is the
+/// result of the trial that leaves nothing out if an equal branch is found beside the branch, and otherwise the result of a
+/// trial in order.
 fn trial_of(
     alloc: Global,
     branch: &Branch,
@@ -150,7 +160,7 @@ fn trial_of(
     trial_in_order(alloc, branch, &mut store.walk, &mut store.patience, limit)
 }
 
-/// The result of a trial of an automaton without the states of the places that aren't kept.
+/// Returns the result of the trial that leaves out the places whose flags in `keep` are false.
 fn trial_on(
     alloc: Global,
     store: &mut Store,
@@ -167,7 +177,8 @@ fn trial_on(
     Ok(found)
 }
 
-/// The result of such a trial, and the sets with those that it found.
+/// Refreshes the store and carries out the trial that leaves out the places whose flags in `keep` are false. Returns the
+/// result, and the store with what the trial has found.
 fn judge_on(
     alloc: Global,
     store: Store,
@@ -189,7 +200,7 @@ fn judge_on(
     }
 }
 
-/// The same, starting with no sets from earlier trials.
+/// Carries out the trial as `judge_on` does, but with a new store. Returns `None` if its walk would have too many sets.
 fn judge_afresh(
     alloc: Global,
     a: &Prio,
@@ -211,7 +222,8 @@ fn judge_afresh(
     }
 }
 
-/// The same with the sets of earlier trials, or without them if there is no room for more sets.
+/// Carries out the trial as `judge_on` does. If there is no store, or its walk would have too many sets, carries it out with a
+/// new store. Returns `None` if the walk of the new store would have too many sets too.
 fn judge_if_room(
     alloc: Global,
     store: Option<Store>,
@@ -234,10 +246,12 @@ fn judge_if_room(
 }
 
 impl Trimmer {
-    /// Builds the automaton of a tree within the limits.
+    /// Returns a trimmer for a tree that is matched to the end of the text. The sets of the tree must have only codes of the
+    /// universe `u`. The tree must not exceed the limits on its nodes, its letters and the lengths of its item lists, which
+    /// are the lists of what a matcher can try next at one point.
     ///
     /// # Errors
-    /// [`OutOfMemory`] if there was no memory for it.
+    /// [`OutOfMemory`] if there is not enough memory for it.
     pub fn new(alloc: Global, tree: &Re, u: Universe) -> Result<Trimmer, OutOfMemory>
         requires inside { IsOver u (tree_of tree.now) }
         requires within { IsWithin u (tree_of tree.now) }
@@ -245,7 +259,7 @@ impl Trimmer {
     {
         match Prio::build(alloc, tree, Ending::AtEnd, u) {
             Ok(automaton) => {
-                // Reading the number of states shows that it is a whole automaton.
+                // Reading the number of states tells the prover that the automaton is well formed.
                 let _states = automaton.states();
                 let Ok(store) = close(alloc, &automaton) else {
                     drop(automaton);
@@ -258,11 +272,16 @@ impl Trimmer {
         }
     }
 
-    /// Compares the languages of the tree and of the tree without the branches whose places aren't kept. The result is the same
-    /// as that of a trial that builds both trees. It is `None` if the automaton has more sets than a trial has room for.
+    /// Compares the language of the tree with the language of the tree without the branches whose places aren't kept. A place
+    /// is a leaf of the tree that matches one code. `keep` has one flag for each place, from left to right, which says whether
+    /// it is kept; `limit` is the most set pairs that the comparison may look at. Returns the result that a comparison of both
+    /// trees has: [`Judgement::Equal`], [`Judgement::Apart`] or [`Judgement::Passed`]. Returns `None` if the trial needs more
+    /// sets than a walk may have, even with a new walk. The result has this meaning only if the tree has no guards, `keep` has
+    /// one flag for each place, and the places that aren't kept are the places of branches none of which may span the empty
+    /// text. Sets that the trial finds may be kept for later trials.
     ///
     /// # Errors
-    /// [`OutOfMemory`] if there was no memory for the trial.
+    /// [`OutOfMemory`] if there is not enough memory for the trial.
     pub fn judge(
         &mut self,
         alloc: Global,
@@ -272,7 +291,7 @@ impl Trimmer {
         ensures judged { IfOk result (λ o. IfSome o (λ j. (u : AnyUniverse) (s t : Tree) → IsBase u t self.old → guards_in t ≡ []
             → Without keep.now s t → IsJudged (set_pairs u t s) limit j)) }
         ensures told { IfOk result (λ o. IfSome o (λ j. (u : AnyUniverse) (s t : Tree) → IsBase u t self.old → guards_in t ≡ []
-            → Without keep.now s t → IsTold u t s j)) }
+            → Without keep.now s t → IsTrueJudgement u t s j)) }
         ensures unchanged { self.new ≡ self.old }
     {
         let kept = self.store.take();

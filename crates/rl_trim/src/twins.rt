@@ -1,7 +1,11 @@
-//! Branches that have an equal one beside them. To leave such a branch out changes nothing, so one trial serves them all.
+//! Finds out whether a branch that is left out has an equal branch beside it. Leaving such a branch out changes nothing, so
+//! one trial, which leaves nothing out, serves all such branches.
 //!
-//! The places of a branch are consecutive, in one or several copies, and an equal branch lies at one distance from it, the same in
-//! each copy. So the states of the equal branch stand in for those of the branch. That they do is checked on the automaton.
+//! The places of a branch are consecutive, in one or several copies, and the equal branch lies at the same distance from it in
+//! each copy. So each state of the branch is replaced by the state at this distance, and each kept state by itself. The
+//! replacement stands in for a state if it is kept, isn't the dead state unless the state is, and moves, on each letter and
+//! the end letter, to the replacement of each target of the state. It is checked on the automaton that this is so for all
+//! states.
 
 ghost use Rattle.std.specs.Prelude.{◌≡◌, ℕ, suc, ◌+◌, ◌<◌, ◌≤◌, ◌⊎◌, true, length, IfOk, OnOk, IfSome};
 ghost use Rattle.rl_prio.specs.Automaton.{letters_count, dead_state};
@@ -15,17 +19,18 @@ use rl_lists::{Members, OutOfMemory};
 use rl_prio::Prio;
 use std::alloc::Global;
 
-/// The most states that are tried as the one that stands in for the first state of a branch.
+/// The most states that are tried as the replacement of the first state of a branch.
 const MOST_TRIED: usize = 64;
 
-/// For each state, the states that it moves to on some letter or on the end letter.
+/// The targets of each state: the states to which it moves on some letter or the end letter.
 #[derive(Drop)]
 pub(crate) struct Targets {
-    /// A list for each state. It may hold a state more than once.
+    /// A list of targets for each state, in the order of the states. A target may be listed more than once.
     pub lists: Vec<Members>,
 }
 
-/// Appends the targets of a state on a letter, unless they are those on the letter before.
+/// Appends the targets of a state on a letter to the list, unless the state has the same moves on the letter before. The list
+/// must already have the targets on all letters before.
 fn add_targets(list: &mut Vec<u32>, a: &Prio, state: u32, letter: u32) -> Result<(), OutOfMemory>
     requires state_in { state < a.now.states }
     requires letter_in { letter ≤ letters_count a.now }
@@ -40,7 +45,7 @@ fn add_targets(list: &mut Vec<u32>, a: &Prio, state: u32, letter: u32) -> Result
     Ok(())
 }
 
-/// The states that a state moves to on some letter or on the end letter.
+/// Returns the list of the states to which a state moves on some letter or the end letter. It may have a state more than once.
 fn targets_of(alloc: Global, a: &Prio, state: u32) -> Result<Members, OutOfMemory>
     requires { state < a.now.states }
     ensures { IfOk result (HasTargets a.now state (suc (letters_count a.now))) }
@@ -55,7 +60,7 @@ fn targets_of(alloc: Global, a: &Prio, state: u32) -> Result<Members, OutOfMemor
 }
 
 impl Targets {
-    /// The targets of the states of an automaton.
+    /// Returns the targets of all states of an automaton.
     fn new(alloc: Global, a: &Prio) -> Result<Targets, OutOfMemory>
         ensures { IfOk result (λ t. AreTargets a.now a.now.states t.lists.items) }
     {
@@ -67,7 +72,7 @@ impl Targets {
         Ok(Targets { lists })
     }
 
-    /// The targets found earlier, if there are any; otherwise those of the states of an automaton.
+    /// Returns the targets `found` earlier, if they are given; otherwise finds the targets of all states of the automaton `a`.
     pub(crate) fn found_or_new(
         alloc: Global,
         a: &Prio,
@@ -82,7 +87,8 @@ impl Targets {
         }
     }
 
-    /// The first of the states that moves to a state.
+    /// Returns the first of the states with the numbers below `states` that moves to `state` on some letter or the end letter,
+    /// or `None` if there is none.
     fn first_source(&self, states: u32, state: u32) -> Option<u32>
         requires { states ≤ length self.now.lists.items }
         ensures { IfSome result (λ from. from < states) }
@@ -96,29 +102,30 @@ impl Targets {
     }
 }
 
-/// Whether a state is one of the targets.
+/// Returns whether a state is one of the listed targets.
 fn holds(targets: &[u32], state: u32) -> bool
     ensures { result ≡ holds_in targets.now state }
 {
     targets.iter().any(|target| *target == state)
 }
 
-/// A way to replace the states of a branch by those of another one.
+/// A way to replace the states of a branch that is left out by the states of another branch. Kept states are replaced by
+/// themselves.
 #[derive(Drop)]
 struct Shift<'a> {
     /// The automaton.
     automaton: &'a Prio,
-    /// The targets of its states.
+    /// The targets of the automaton's states.
     targets: &'a Targets,
-    /// For each place, whether it is kept.
+    /// For each place of the tree, whether it is kept.
     keep: &'a [bool],
-    /// How far the other branch lies from the branch, counted modulo 2^32.
+    /// The number that is added, modulo 2^32, to a state that isn't kept to get its replacement.
     distance: u32,
     ghost are_targets: { AreTargets automaton.now automaton.now.states targets.now.lists.items },
 }
 
 impl<'a> Shift<'a> {
-    /// What stands in for a state.
+    /// Returns the replacement of a state: the state itself if it is kept.
     fn stand_in(&self, state: u32) -> u32
         ensures { result ≡ stand_in_of self.now.keep.now self.now.distance state }
     {
@@ -128,7 +135,8 @@ impl<'a> Shift<'a> {
         state.wrapping_add(self.distance)
     }
 
-    /// Whether on a letter, what stands in for a state moves to whatever stands in for a target of the state.
+    /// Returns whether `other`, the replacement of `state`, moves on a letter or the end letter to the replacement of each
+    /// target of `state` on it.
     fn follows(&self, state: u32, other: u32, letter: u32) -> bool
         requires state_in { state < self.now.automaton.now.states }
         requires other_in { other < self.now.automaton.now.states }
@@ -139,7 +147,7 @@ impl<'a> Shift<'a> {
         let found = self.automaton.moves(other, letter);
         for target in self.automaton.moves(state, letter) {
             let wanted = self.stand_in(*target);
-            // Such a target is there. To look for it would take long.
+            // The state itself moves to this target, so it needn't be looked for.
             if other == state && wanted == *target {
                 continue;
             }
@@ -150,7 +158,8 @@ impl<'a> Shift<'a> {
         true
     }
 
-    /// Whether a state is kept, and is not the dead state unless it is to stand in for itself.
+    /// Returns whether `other` is kept and may be the replacement of `state`: it is `state` itself, or a state before the dead
+    /// state.
     fn may_stand_in(&self, state: u32, other: u32) -> bool
         ensures kept { result ≡ true → is_kept_in self.now.keep.now other ≡ true }
         ensures alive { result ≡ true → (other ≡ state) ⊎ (other < dead_state self.now.automaton.now) }
@@ -158,7 +167,7 @@ impl<'a> Shift<'a> {
         is_kept(self.keep, other) && (other == state || other < self.automaton.dead())
     }
 
-    /// Whether a state is kept and moves to kept states only.
+    /// Returns whether a state is kept and moves only to kept states. If so, it stands in for itself.
     fn stays(&self, state: u32) -> bool
         requires { state < self.now.automaton.now.states }
         ensures { result ≡ true → StandsIn self.now.automaton.now self.now.keep.now (stand_in_of self.now.keep.now self.now.distance) state }
@@ -174,7 +183,7 @@ impl<'a> Shift<'a> {
         true
     }
 
-    /// Whether a kept state stands in for a state.
+    /// Returns whether the replacement of a state stands in for it.
     fn stands_in(&self, state: u32) -> bool
         requires { state < self.now.automaton.now.states }
         ensures { result ≡ true → StandsIn self.now.automaton.now self.now.keep.now (stand_in_of self.now.keep.now self.now.distance) state }
@@ -195,7 +204,7 @@ impl<'a> Shift<'a> {
         self.follows(state, other, end)
     }
 
-    /// Whether kept states stand in for the states in a range.
+    /// Returns whether the replacement of each state from `first` to before `end` stands in for it.
     fn all_stand_in(&self, first: u32, end: u32) -> bool
         requires { end ≤ self.now.automaton.now.states }
         ensures { result ≡ true → (q : ℕ) → first ≤ q → q < end
@@ -209,7 +218,8 @@ impl<'a> Shift<'a> {
         true
     }
 
-    /// Whether kept states stand in for all states. The states from `first` on are looked at first.
+    /// Returns whether the accepting state is kept and the replacement of each state stands in for it. The states from `first`
+    /// on are looked at first.
     fn leads_to_twin(&self, first: u32) -> bool
         requires { first ≤ self.now.automaton.now.states }
         ensures { result ≡ true → AreTwins self.now.automaton.now self.now.keep.now (stand_in_of self.now.keep.now self.now.distance) }
@@ -222,15 +232,16 @@ impl<'a> Shift<'a> {
     }
 }
 
-/// The first state that isn't kept.
+/// Returns the first of the states with the numbers below `states` that isn't kept, or `None` if all are.
 fn first_gone(keep: &[bool], states: u32) -> Option<u32>
     ensures { IfSome result (λ state. state < states) }
 {
     (0..states).find(|state| !is_kept(keep, *state))
 }
 
-/// The targets of the first state that moves to a state, on the first letter on which it does. There are none if no state moves
-/// there.
+/// Returns the targets of one state on one letter: of the first state that moves to `state`, on the first letter on which it
+/// does. So `state` is one of them. Returns an empty list if no state moves to `state`, or the first one does so only on the
+/// end letter.
 fn rivals_of<'a>(automaton: &'a Prio, targets: &Targets, state: u32) -> &'a [u32]
     requires { AreTargets automaton.now automaton.now.states targets.now.lists.items }
 {
@@ -246,7 +257,8 @@ fn rivals_of<'a>(automaton: &'a Prio, targets: &Targets, state: u32) -> &'a [u32
     &[]
 }
 
-/// Whether a branch has an equal one beside it, as far as a short search shows.
+/// Returns whether a branch has an equal branch beside it. If the result is true, there are replacements that stand in for all
+/// states. The result may be false although there is an equal branch, since only a few replacements are tried.
 pub(crate) fn has_twin(branch: &Branch, targets: &Targets) -> bool
     requires { AreTargets branch.now.automaton.now branch.now.automaton.now.states targets.now.lists.items }
     ensures { result ≡ true → HasTwin branch.now.automaton.now branch.now.keep.now }

@@ -1,4 +1,5 @@
-//! Words that lead to a pair of sets that shows a difference.
+//! Words that lead to a pair of sets that shows a difference: the end letter leads exactly one of its two sets to the
+//! accepting state.
 
 ghost use Rattle.std.specs.Prelude.{◌≡◌, true, length, IfOk, OnOk};
 ghost use Rattle.rl_trim.specs.internal.Trims.{LeadsApart};
@@ -12,7 +13,8 @@ use rl_lists::OutOfMemory;
 use rl_sets::{SetWalk, SetsError};
 use std::alloc::Global;
 
-/// Appends the letters by which the set or pair at a place was found, last letter first. Returns the place that they start from.
+/// Appends to `back` the letters by which the set or pair at a place was found, last letter first. Returns the place of the
+/// set or pair from which they lead there, which was not found by a letter.
 fn trace(back: &mut Vec<u32>, ways: &[Way], place: usize) -> Result<usize, OutOfMemory> {
     let mut at = place;
     while at < ways.len() && ways[at].parent < at {
@@ -22,7 +24,9 @@ fn trace(back: &mut Vec<u32>, ways: &[Way], place: usize) -> Result<usize, OutOf
     Ok(at)
 }
 
-/// The word by which the pair at a place was found: the word of the set that the search started from, then that of the pair.
+/// Returns the word by which the pair at a place was found. It has two parts: the letters by which a set was found from the
+/// start, and the letters by which the pair was found from the pair of this set and the same set without the branch. `sets`
+/// and `pairs` say how sets and pairs were found, and `keys` are the pairs.
 pub(crate) fn word_to(
     alloc: Global,
     sets: &[Way],
@@ -39,7 +43,8 @@ pub(crate) fn word_to(
     Ok(back)
 }
 
-/// Whether a word leads to a pair of sets that shows a difference.
+/// Returns whether a word leads from the pair of the two starts to a pair that shows a difference. A word with a number that
+/// is no letter, such as the end letter, doesn't.
 pub(crate) fn leads_apart(
     branch: &Branch,
     walk: &mut SetWalk,

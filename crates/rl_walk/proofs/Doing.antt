@@ -7,7 +7,7 @@ use Rattle.rl_source.specs.Asked.{call_of}
 use Rattle.rl_source.specs.Distinct.{Lists}
 use Rattle.rl_source.specs.Faults.{Rose}
 use Rattle.rl_source.specs.NodeMap.{kind_at, children_at, bytes_at}
-use Rattle.rl_source.specs.Told.{Told, after}
+use Rattle.rl_source.specs.Revealed.{Revealed, after}
 use Rattle.rl_source.specs.declared.nodes.Call.{Call}
 use Rattle.rl_source.specs.declared.nodes.CallName.TheVariants as call
 use Rattle.rl_source.specs.declared.nodes.Child.{Child}
@@ -39,15 +39,15 @@ pub some_answer : {A : Type 0} (P : A → Type 0) (o : Option A) → IsSomeAnd o
 some_answer P None h = absurd h
 some_answer P (Some x) h = (x, refl, h)
 
-told_answer : (P : Told → Type 0) (o : Option Told) (t : Told) → IfSome o P → o ≡ Some t → P t
+told_answer : (P : Revealed → Type 0) (o : Option Revealed) (t : Revealed) → IfSome o P → o ≡ Some t → P t
 told_answer P o t h e = subst (λ x. IfSome x P) e h
 
 -- Trails one after another.
-after-none : (o : Option Told) → after [] o ≡ o
+after-none : (o : Option Revealed) → after [] o ≡ o
 after-none None = refl
 after-none (Some t) = ap (λ (l : List Call). Some (record t { trail = l })) (append-nil t.trail)
 
-after-more : (first second : List Call) (o : Option Told) → after second (after first o) ≡ after (first ++ second) o
+after-more : (first second : List Call) (o : Option Revealed) → after second (after first o) ≡ after (first ++ second) o
 after-more first second None = refl
 after-more first second (Some t) = ap (λ (l : List Call). Some (record t { trail = l })) (append_assoc t.trail first second)
 
@@ -79,7 +79,7 @@ begins-more nodes first second m1 m2 m3 c1 c2 v1 v2 a b = record {
 }
 
 -- The map stays the same.
-same_map : (calls : List Call) (old new : Option Told) (t : Told) → new ≡ after calls old → old ≡ Some t → new ≡ Some (record t { trail = t.trail ++ calls })
+same_map : (calls : List Call) (old new : Option Revealed) (t : Revealed) → new ≡ after calls old → old ≡ Some t → new ≡ Some (record t { trail = t.trail ++ calls })
 same_map calls old new t e s = e ∙ ap (after calls) s
 
 pub Does-more : {first second : List Step} {a b c : Moment} {m1 m2 m3 : Paths} {w1 w2 w3 : List Visit → Type 0}
@@ -106,7 +106,7 @@ pub told-visit : (was now : List Visit → Type 0) (visit same : Visit) → ((vi
 told-visit was now visit same h e visits w = subst (λ v. now (visits ++ v ∷ [])) e (h visits w)
 
 -- The trail after two parts.
-trail-more : (first second : List Call) (old mid new : Option Told) → mid ≡ after first old → new ≡ after second mid → new ≡ after (first ++ second) old
+trail-more : (first second : List Call) (old mid new : Option Revealed) → mid ≡ after first old → new ≡ after second mid → new ≡ after (first ++ second) old
 trail-more first second old mid new e k = k ∙ ap (after second) e ∙ after-more first second old
 
 module _ (path : List ℕ) (met next : Paths) (added : Bool) (says : added ≡ not (is_met path met)) (goes : next ≡ with_path met path) where

@@ -6,7 +6,7 @@ use rl_lists::OutOfMemory;
 use rl_source::Child;
 use std::alloc::Global;
 
-/// Whether the name ends in `.py`.
+/// Returns whether the name ends in `.py`.
 pub(crate) fn has_source_name(name: &str) -> bool
     ensures { result ≡ has_source_name name.now }
 {
@@ -24,7 +24,10 @@ fn slash_after(folder: &str) -> &'static str
     }
 }
 
-/// Returns the path of a child.
+/// Returns the path of the child with this name in the folder with the path `folder`.
+///
+/// # Errors
+/// [`OutOfMemory`] if there is not enough memory.
 pub(crate) fn path_below(alloc: Global, folder: &str, name: &str) -> Result<String, OutOfMemory>
     ensures { IfOk result (λ path. string_bytes path ≡ path_below folder.now name.now) }
 {
@@ -34,7 +37,10 @@ pub(crate) fn path_below(alloc: Global, folder: &str, name: &str) -> Result<Stri
     Ok(path)
 }
 
-/// Sorts the children by the bytes of their names.
+/// Returns the children sorted by the bytes of their names, in ascending order.
+///
+/// # Errors
+/// [`OutOfMemory`] if there is not enough memory.
 pub(crate) fn in_order(mut children: Vec<Child>) -> Result<Vec<Child>, OutOfMemory>
     ensures { IfOk result (λ sorted. IsInOrder children.items sorted.items) }
 {

@@ -9,8 +9,9 @@
 //! # What is proved
 //!
 //! If the tree reveals its map and its trail, the calls of the walk and its visits are exactly those of the rules, in
-//! order. A call failed if and only if some visit reports it. By [`walks_are_determined`], the map, the paths and the marks
-//! of the calls determine both. If the walk runs out of memory, the contract doesn't specify the trail.
+//! order. Some call failed if and only if some visit is [`Visit::Unreadable`]. If no path occurs twice in the map and no name
+//! twice in a folder, then by [`walks_are_determined`] the map, the paths, and which calls failed determine the calls and the
+//! visits. If the walk runs out of memory, the contract doesn't specify the trail.
 //!
 //! # Example
 //!

@@ -23,7 +23,7 @@ impl Model for Met {
 }
 
 impl Met {
-    /// Creates an empty set: no path has been met yet.
+    /// Returns the empty set: no path has been met yet.
     pub(crate) fn new(alloc: Global) -> Met
         ensures { result ≡ [] }
     {
@@ -33,7 +33,10 @@ impl Met {
         }
     }
 
-    /// Adds a path, and returns whether it is new.
+    /// Adds a path, and returns whether it is new. A path that was met before doesn't change the set.
+    ///
+    /// # Errors
+    /// [`OutOfMemory`] if there is not enough memory.
     pub(crate) fn add(&mut self, path: &str) -> Result<bool, OutOfMemory>
         ensures added { IfOk result (λ new. new ≡ not (is_met path.now self.old)) }
         ensures met { OnOk result (self.new ≡ with_path self.old path.now) }

@@ -1,16 +1,17 @@
-//! The visits of a walk, and who receives them.
+//! The visits of a walk, and who receives them. A visit is what the walk reports about a path: a source with its bytes, or why
+//! there is none.
 ghost use Rattle.std.specs.Prelude.{◌≡◌, ◌∷◌, [], ◌++◌, List, OnOk};
 
 use rl_lists::{Items, OutOfMemory};
 use rl_source::{Content, Name};
 
-/// What a walk reports about a path.
+/// What a walk reports about a path. Each variant contains the path, which begins with a path that the walk was given.
 #[derive(Drop)]
 pub enum Visit {
-    /// A source with its bytes: the first [`MOST_BYTES`](rl_lists::MOST_BYTES) bytes of its file and one more, or all of
-    /// them if there are fewer.
+    /// The path of a source, and its bytes: all of them, but at most the first [`MOST_BYTES`](rl_lists::MOST_BYTES) and one
+    /// more.
     Source(Name, Content),
-    /// A call of the tree for this path failed.
+    /// A call of the tree for this path failed: the tree couldn't say what is there, list the folder or read the file.
     Unreadable(Name),
     /// A folder more than [`MOST_LEVELS`](crate::MOST_LEVELS) levels below the path that the walk was given. It isn't
     /// entered.
@@ -27,7 +28,7 @@ pub trait Visitor {
     ghost use Rattle.rl_walk.specs.declared.visits.Visit.{Visit};
 
     // The visitor, in its current state, has received these visits in this order.
-    ghost was_told: { Self → List Visit → Type 0 };
+    ghost has_received: { Self → List Visit → Type 0 };
     // Its configuration, which no visit changes.
     ghost Config: { Type 0 };
 
@@ -38,12 +39,12 @@ pub trait Visitor {
     /// # Errors
     /// [`OutOfMemory`] if there is not enough memory. The walk ends then.
     fn visit(&mut self, visit: Visit) -> Result<(), OutOfMemory>
-        ensures told { OnOk result ((visits : List Visit) → was_told self.old visits → was_told self.new (visits ++ visit ∷ [])) }
+        ensures told { OnOk result ((visits : List Visit) → has_received self.old visits → has_received self.new (visits ++ visit ∷ [])) }
         ensures config { config self.new ≡ config self.old };
 }
 
 impl Visitor for Visits {
-    ghost was_told = { λ list visits. list ≡ visits };
+    ghost has_received = { λ list visits. list ≡ visits };
 
     ghost Config = { Unit {0} };
 

@@ -1,4 +1,6 @@
-//! The walk itself.
+//! The walk itself. A path is met when the walk first takes the file or the folder there; later it is skipped. A call asks a
+//! tree for the kind, the children or the bytes of a path, and its mark says whether it failed. A visit is what the walk
+//! reports about a path: a source with its bytes, or why there is none.
 ghost use Rattle.std.specs.Prelude.{◌≡◌, ◌≤◌, ◌∷◌, [], ◌+◌, map, OnOk};
 ghost use Rattle.rl_walk.specs.Steps.{named, file, folder, child_steps, steps_below};
 ghost use Rattle.rl_walk.specs.Children.{path_below, IsInOrder};
@@ -20,7 +22,7 @@ const MOST_READ: usize = MOST_BYTES + 1;
 /// The maximum depth of a folder, in levels below the path that the walk was given. A deeper folder isn't entered.
 pub const MOST_LEVELS: u32 = 64;
 
-/// Says which number the limit is: 64 levels.
+/// Does nothing: its contract states the value of the limit, 64 levels.
 pub fn limits_are()
     ensures levels { MOST_LEVELS ≡ 64 }
 {}
@@ -35,7 +37,7 @@ fn take_file<T: Tree, V: Visitor>(
 ) -> Result<(), OutOfMemory>
     ensures does { OnOk result (Does (file path.now ∷ [])
         (moment_of T.told T.fault_count tree.old) (moment_of T.told T.fault_count tree.new)
-        met.old met.new (V.was_told visitor.old) (V.was_told visitor.new)) }
+        met.old met.new (V.has_received visitor.old) (V.has_received visitor.new)) }
     ensures later { T.fault_count tree.old ≤ T.fault_count tree.new }
     ensures config { V.config visitor.new ≡ V.config visitor.old }
 {
@@ -67,7 +69,7 @@ fn enter<T: Tree, V: Visitor>(
 ) -> Result<(), OutOfMemory>
     ensures does { OnOk result (Does (folder path.now level ∷ [])
         (moment_of T.told T.fault_count tree.old) (moment_of T.told T.fault_count tree.new)
-        met.old met.new (V.was_told visitor.old) (V.was_told visitor.new)) }
+        met.old met.new (V.has_received visitor.old) (V.has_received visitor.new)) }
     ensures later { T.fault_count tree.old ≤ T.fault_count tree.new }
     ensures config { V.config visitor.new ≡ V.config visitor.old }
 {
@@ -105,7 +107,7 @@ fn take_children<T: Tree, V: Visitor>(
     requires { level ≤ MOST_LEVELS }
     ensures does { OnOk result (Does (steps_below path.now level children.now)
         (moment_of T.told T.fault_count tree.old) (moment_of T.told T.fault_count tree.new)
-        met.old met.new (V.was_told visitor.old) (V.was_told visitor.new)) }
+        met.old met.new (V.has_received visitor.old) (V.has_received visitor.new)) }
     ensures later { T.fault_count tree.old ≤ T.fault_count tree.new }
     ensures config { V.config visitor.new ≡ V.config visitor.old }
 {
@@ -130,7 +132,7 @@ fn take_child<T: Tree, V: Visitor>(
     requires { level ≤ MOST_LEVELS + 1 }
     ensures does { OnOk result (Does (child_steps child.now.kind child.now.name path.now level)
         (moment_of T.told T.fault_count tree.old) (moment_of T.told T.fault_count tree.new)
-        met.old met.new (V.was_told visitor.old) (V.was_told visitor.new)) }
+        met.old met.new (V.has_received visitor.old) (V.has_received visitor.new)) }
     ensures later { T.fault_count tree.old ≤ T.fault_count tree.new }
     ensures config { V.config visitor.new ≡ V.config visitor.old }
 {
@@ -157,7 +159,7 @@ fn take_named<T: Tree, V: Visitor>(
 ) -> Result<(), OutOfMemory>
     ensures does { OnOk result (Does (named path.now ∷ [])
         (moment_of T.told T.fault_count tree.old) (moment_of T.told T.fault_count tree.new)
-        met.old met.new (V.was_told visitor.old) (V.was_told visitor.new)) }
+        met.old met.new (V.has_received visitor.old) (V.has_received visitor.new)) }
     ensures later { T.fault_count tree.old ≤ T.fault_count tree.new }
     ensures config { V.config visitor.new ≡ V.config visitor.old }
 {
@@ -176,16 +178,19 @@ fn take_named<T: Tree, V: Visitor>(
     }
 }
 
-/// Walks over a tree, depth first, from each of the paths in turn. The visitor receives each visit.
+/// Walks over a tree, depth first, from each of the paths in turn, and gives each visit to the visitor. Returns `Ok` when all
+/// paths are done, even if calls of the tree failed.
 ///
-/// A path that is a file is read, whatever its name. A path that is a folder is entered. The children of a folder are taken
-/// in the order of the bytes of their names: files whose names end in `.py` are read, folders are entered in their place,
-/// and everything else is skipped. A folder more than [`MOST_LEVELS`] levels below the path isn't entered. A file or folder
-/// is skipped if the walk has met the same path text before. After a call that failed, the walk goes on. At most
-/// [`MOST_BYTES`] bytes and one more are read of a file.
+/// A given path is read if it is a file, whatever its name, and entered if it is a folder; if it is neither, it is reported as
+/// [`Visit::NotPlain`]. The children of a folder are taken in the order of the bytes of their names: files whose names end in
+/// `.py` are read, folders are entered, and everything else is skipped. A file or folder is skipped if the walk has met the
+/// same path text before. A folder more than [`MOST_LEVELS`] levels below the given path is reported as [`Visit::TooDeep`] and
+/// isn't entered. Of each file that is read, at most [`MOST_BYTES`] bytes and one more are reported, as [`Visit::Source`]. If
+/// a call of the tree fails, its path is reported as [`Visit::Unreadable`], and the walk goes on.
 ///
 /// # Errors
-/// [`OutOfMemory`] if there is not enough memory. The walk ends then, and the tree may have been read in part.
+/// [`OutOfMemory`] if there is not enough memory for the walk, for a call of the tree or for the visitor. The walk ends then,
+/// perhaps after some visits.
 pub fn walk<T: Tree, V: Visitor>(
     alloc: Global,
     paths: &[&str],
@@ -194,7 +199,7 @@ pub fn walk<T: Tree, V: Visitor>(
 ) -> Result<(), OutOfMemory>
     ensures walked { OnOk result (Walked
         (moment_of T.told T.fault_count tree.old) (moment_of T.told T.fault_count tree.new)
-        (map (λ p. p.now) paths.now) (V.was_told visitor.old) (V.was_told visitor.new)) }
+        (map (λ p. p.now) paths.now) (V.has_received visitor.old) (V.has_received visitor.new)) }
     ensures later { T.fault_count tree.old ≤ T.fault_count tree.new }
     ensures config { V.config visitor.new ≡ V.config visitor.old }
 {

@@ -1,4 +1,5 @@
--- Which words are a valid call, and what a valid call asks for.
+-- Which words are a valid call, and what a valid call asks for. The words are those after the program's name. A row is what
+-- the command, as `clap` defines it, finds in the words for one of its arguments or options. A text is a list of bytes.
 use Rattle.std.specs.Prelude.{◌&&◌, not, List, [], ◌∷◌, Option, Some, None, codes, if◌then◌else◌, unwrap_or}
 use Rattle.std.specs.List.{list_all}
 use Rattle.std.specs.Str.{bytes_eq}
@@ -15,7 +16,7 @@ use Rattle.rl_words.specs.declared.words.PartialSettings.{PartialSettings}
 
 -- ---- ACTION with its arguments
 
--- The action that the word names.
+-- The name of the action that the word is, or `None` if it isn't one of the seven names.
 abbrev pub action_name_of : Text → Option ActionName
 action_name_of word = if bytes_eq word (codes "check") then Some name.Check
     else (if bytes_eq word (codes "class") then Some name.Class
@@ -26,8 +27,10 @@ action_name_of word = if bytes_eq word (codes "check") then Some name.Check
     else (if bytes_eq word (codes "compare") then Some name.Compare
     else None))))))
 
--- The action with this name and these arguments, or `None` if it doesn't take them. `check` takes at least one path, and
--- none may be empty; SEED and COUNT have one to ten digits; FILE isn't empty.
+-- The action with this name and these arguments, or `None` if it doesn't take them. `check` takes at least one path, and no
+-- path is empty; `class` and `prove` take one pattern; `cost` takes a pattern and a text; `sample` takes SEED and COUNT, which
+-- have one to ten digits and are in their ranges; `verify` takes a pattern and FILE, which isn't empty; `compare` takes two
+-- patterns.
 abbrev pub asked_with : ActionName → List Text → Option Asked
 asked_with name.Check paths = if not (is_empty paths) && list_all is_filled paths then Some (check paths) else None
 asked_with name.Class (pattern ∷ []) = Some (class pattern)
@@ -39,7 +42,8 @@ asked_with name.Verify (pattern ∷ file ∷ []) = if is_filled file then Some (
 asked_with name.Compare (first ∷ second ∷ []) = Some (compare first second)
 asked_with _ _ = None
 
--- The action that the words ask for, or `None` if they don't name one that takes its arguments.
+-- The action that the rows ask for, with its arguments, or `None` if they don't name one of the seven actions, or if it
+-- doesn't take the arguments.
 abbrev pub action_given : List Row → Option Asked
 action_given rows = do
   word ← first_of (codes "action") rows
@@ -48,11 +52,13 @@ action_given rows = do
 
 -- ---- the options
 
--- What an option gives: `Some None` if it isn't given, and `None` if its value is refused.
+-- What the option `name` gives: `Some None` if it isn't given, `None` if `read` refuses its value, otherwise `Some (Some a)`
+-- with the value `a` that `read` returns. Of several values, only the first is read.
 abbrev pub given : {A : Type 0} → Text → (Text → Option A) → List Row → Option (Option A)
 given name read rows = optional read (first_of name rows)
 
--- The settings that the options give, or `None` if a value is refused. The numbers have one to six digits.
+-- The settings that the options give, or `None` if a value is refused. The numbers have one to six digits and are in their
+-- ranges.
 abbrev pub settings_given : List Row → Option PartialSettings
 settings_given rows = do
   Some (record {
@@ -74,7 +80,7 @@ options_given rows = do
 
 -- ---- the whole call
 
--- The whole call, or `None` if its action or an option is refused.
+-- The call that the rows ask for, or `None` if the action or an option is refused.
 abbrev pub call_given : List Row → Option Call
 call_given rows = do
   Some (record { action = (← action_given rows); options = (← options_given rows) })

@@ -2,7 +2,7 @@
 use Rattle.std.specs.Prelude.{◌++◌, codes}
 use Rattle.clap.specs.Walk.{Text}
 
--- The text to print if the words aren't a valid call, with a line for each action.
+-- The text to print if the words aren't a valid call. It has a line for each of the seven actions.
 unfoldable pub usage_text : Text
 usage_text =
     codes "usage: relint check [OPTIONS] PATH..\n"

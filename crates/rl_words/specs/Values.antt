@@ -1,4 +1,4 @@
--- The values of options and the numbers of `sample`, and the texts that denote them.
+-- The values of options and the numbers of `sample`, and the texts that denote them. A text is a list of bytes.
 use Rattle.std.specs.Prelude.{◌==◌, ◌&&◌, ℕ, Bool, not, Option, Some, None, codes}
 use Rattle.std.specs.Prelude.{if◌then◌else◌, length, nat_le, option_and_then, option_map}
 use Rattle.std.specs.Char.{is_ascii_digit}
@@ -21,25 +21,25 @@ abbrev pub is_numeral : ℕ → Text → Bool
 is_numeral digits text =
     is_filled text && (nat_le (length text) digits && list_all is_ascii_digit text)
 
--- Whether the number is in the range.
+-- Whether the number is in the range, which includes its ends.
 abbrev pub is_within : NumberRange → ℕ → Bool
 is_within range number = nat_le range.low number && nat_le number range.high
 
--- The number that the text denotes, or `None` if it doesn't consist of one to `digits` ASCII digits or the number isn't in
--- the range.
+-- The decimal number that the text denotes, or `None` if the text doesn't consist of one to `digits` ASCII digits or the
+-- number isn't in the range. Leading zeros are allowed.
 abbrev pub number_of : ℕ → NumberRange → Text → Option ℕ
 number_of digits range text =
     let number = digits_value 10 text in
     if is_numeral digits text && is_within range number then Some number else None
 
--- The mode that the word names.
+-- The mode that the word names, or `None` if it isn't `fullmatch`, `match` or `search`.
 abbrev pub mode_of : Text → Option ModeWord
 mode_of word = if bytes_eq word (codes "fullmatch") then Some mode.Fullmatch
     else (if bytes_eq word (codes "match") then Some mode.Match
     else (if bytes_eq word (codes "search") then Some mode.Search
     else None))
 
--- The format that the word names.
+-- The format that the word names, or `None` if it isn't `text`, `brief`, `json` or `sarif`.
 abbrev pub format_of : Text → Option FormatWord
 format_of word = if bytes_eq word (codes "text") then Some format.Text
     else (if bytes_eq word (codes "brief") then Some format.Brief
@@ -47,18 +47,19 @@ format_of word = if bytes_eq word (codes "text") then Some format.Text
     else (if bytes_eq word (codes "sarif") then Some format.Sarif
     else None)))
 
--- The path, or `None` if it is empty.
+-- The path that the text is, or `None` if the text is empty.
 abbrev pub path_of : Text → Option Text
 path_of path = if is_filled path then Some path else None
 
 -- ---- values that may be left out
 
--- Passes a value, if there is one, on to a function. A `do` block is a chain of these.
+-- The result of the function `f` on the value of `o`, or `None` if there is no value. A `do` block is a chain of these.
 infixl 10 ◌>>=◌
 abbrev pub ◌>>=◌ : {A B : Type 0} → Option A → (A → Option B) → Option B
 o >>= f = option_and_then f o
 
--- Reads a value that may be missing: `Some None` if it is missing, and `None` if it is refused.
+-- What a value that may be missing gives: `Some None` if it is missing, `None` if `read` refuses it, otherwise `Some (Some a)`
+-- with the result `a` of `read`.
 abbrev pub optional : {V A : Type 0} → (V → Option A) → Option V → Option (Option A)
 optional read None = Some None
 optional read (Some value) = option_map Some (read value)

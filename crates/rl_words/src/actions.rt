@@ -1,4 +1,4 @@
-//! ACTION with its arguments.
+//! ACTION with its arguments. ACTION is the first argument of a call, and the name of an action.
 ghost use Rattle.std.specs.Prelude.{◌≡◌, ◌≢◌, ◌&&◌, ◌∷◌, [], map, not, IfOk, IfSome, option_map};
 ghost use Rattle.std.specs.List.{list_all};
 ghost use Rattle.clap.specs.Walk.{is_empty, texts};
@@ -12,7 +12,7 @@ use crate::{Action, ActionName, COUNTS, SEEDS};
 use rl_lists::{Items, OutOfMemory};
 use std::alloc::Global;
 
-/// Returns the action that a word names.
+/// Returns the name of the action that the word is, or `None` if it isn't one of the seven names.
 pub(crate) fn action_name_of(word: &str) -> Option<ActionName>
     ensures { result ≡ action_name_of word.now }
 {
@@ -121,7 +121,13 @@ fn asked_without_paths<'a>(action: ActionName, args: &[&'a str]) -> Option<Actio
     }
 }
 
-/// Returns the action with this name and these arguments, or `None` if it doesn't take them.
+/// Returns the action with this name and these arguments, or `None` if it doesn't take them. `check` takes at least one path,
+/// and no path is empty; `class` and `prove` take one pattern; `cost` takes a pattern and a text; `sample` takes SEED and
+/// COUNT, which have one to ten digits and are in their ranges; `verify` takes a pattern and FILE, which isn't empty;
+/// `compare` takes two patterns.
+///
+/// # Errors
+/// [`OutOfMemory`] if there is not enough memory.
 pub(crate) fn asked_with<'a>(
     alloc: Global,
     name: ActionName,

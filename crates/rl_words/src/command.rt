@@ -84,7 +84,7 @@ fn relint_command<'a>(alloc: Global) -> Result<Command<'a>, AllocError>
     bare_command(alloc).args(arguments)
 }
 
-/// Applies the command to the words.
+/// Returns what the command finds in the words for each argument and option.
 ///
 /// # Errors
 /// - [`WordsError::Invalid`] if the command doesn't accept the words.
@@ -118,14 +118,14 @@ fn error_of(kind: ErrorKind) -> WordsError
     }
 }
 
-/// Returns the first value of an argument or option.
+/// Returns the first value of the argument or option with this name, or `None` if it has none.
 pub(crate) fn value_of<'a>(matches: &ArgMatches<'a>, name: &str) -> Option<&'a str>
     ensures { option_map (λ s. s.now) result ≡ first_of name.now (rows_of (found_of matches.now)) }
 {
     matches.get_str(name)
 }
 
-/// Returns all values of an argument or option, in order, or `None` if there are none.
+/// Returns all values of the argument or option with this name, in order, or `None` if it has none.
 pub(crate) fn values_of<'m, 'a>(matches: &'m ArgMatches<'a>, name: &str) -> Option<&'m [&'a str]>
     ensures { option_map (λ s. texts s.now) result
         ≡ all_of name.now (rows_of (found_of matches.entry.now)) }

@@ -1,4 +1,4 @@
-//! Why words couldn't be read.
+//! Why the words of the command line couldn't be read.
 
 /// Why words couldn't be read.
 #[derive(Clone, Copy)]

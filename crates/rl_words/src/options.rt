@@ -1,4 +1,5 @@
-//! The options, taken from what the command found.
+//! The options, taken from what the command of `clap` found in the words. A setting is an option that a settings file can set
+//! too.
 ghost use Rattle.std.specs.Prelude.{◌≡◌, IfSome, option_map, codes};
 ghost use Rattle.clap.specs.Walk.{first_of, rows_of};
 ghost use Rattle.clap.specs.Matches.{found_of};
@@ -71,7 +72,7 @@ fn settings_given(matches: &ArgMatches) -> Option<PartialSettings>
     })
 }
 
-/// Reads all options, or returns `None` if a value is refused.
+/// Returns all options that are given, or `None` if the value of one is refused.
 pub(crate) fn options_given<'a>(matches: &ArgMatches<'a>) -> Option<Options<'a>>
     ensures value { option_map chosen result ≡ options_given (rows_of (found_of matches.now)) }
     ensures ranges { IfSome result (λ options. AreInRange options.values) }

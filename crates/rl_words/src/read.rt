@@ -1,9 +1,9 @@
-//! The words as a whole.
+//! The words as a whole: those that follow the program's name on the command line.
 ghost use Rattle.std.specs.Prelude.{◌≡◌, Some, None, map, IfOk, IfSome, IsErrOf, option_map};
 ghost use Rattle.std.specs.String.{string_bytes};
 ghost use Rattle.clap.specs.Walk.{rows_of};
 ghost use Rattle.clap.specs.Matches.{found_of};
-ghost use Rattle.rl_words.specs.Call.{HasActionRanges, HasRanges, asked, said};
+ghost use Rattle.rl_words.specs.Call.{HasActionRanges, HasRanges, asked, call_of};
 ghost use Rattle.rl_words.specs.Given.{action_given, call_given, given_by};
 
 use crate::actions::{action_name_of, asked_with};
@@ -37,8 +37,8 @@ fn action_given<'a>(
 
 /// Reads the whole call. It is invalid if the arguments or the value of an option are refused.
 fn call_given<'a>(alloc: Global, matches: &ArgMatches<'a>) -> Result<Words<'a>, WordsError>
-    ensures ok { IfOk result (λ w. call_given (rows_of (found_of matches.now)) ≡ Some (said w)) }
-    ensures ranges { IfOk result (λ w. HasRanges (said w)) }
+    ensures ok { IfOk result (λ w. call_given (rows_of (found_of matches.now)) ≡ Some (call_of w)) }
+    ensures ranges { IfOk result (λ w. HasRanges (call_of w)) }
     ensures invalid { IsErrOf result WordsError.Invalid
         → call_given (rows_of (found_of matches.now)) ≡ None }
 {
@@ -52,15 +52,15 @@ fn call_given<'a>(alloc: Global, matches: &ArgMatches<'a>) -> Result<Words<'a>, 
     }
 }
 
-/// Reads the words after the program's name.
+/// Returns what the words after the program's name ask for: an action with its arguments, and the options.
 ///
 /// # Errors
-/// - [`WordsError::Invalid`] if and only if the words aren't a valid call.
+/// - [`WordsError::Invalid`] only if the words aren't a valid call, in which case there is never a result.
 /// - [`WordsError::OutOfMemory`] if there is not enough memory.
 pub fn read_words<'a>(alloc: Global, words: &'a Vec<String>) -> Result<Words<'a>, WordsError>
     ensures ok { IfOk result (λ w. given_by (map string_bytes words.entry.now.items)
-        ≡ Some (said w)) }
-    ensures ranges { IfOk result (λ w. HasRanges (said w)) }
+        ≡ Some (call_of w)) }
+    ensures ranges { IfOk result (λ w. HasRanges (call_of w)) }
     ensures invalid { IsErrOf result WordsError.Invalid
         → given_by (map string_bytes words.entry.now.items) ≡ None }
 {

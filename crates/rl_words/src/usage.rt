@@ -2,7 +2,7 @@
 ghost use Rattle.std.specs.Prelude.{◌≡◌};
 ghost use Rattle.rl_words.specs.Usage.{usage_text};
 
-/// Returns the text to print if the words aren't a valid call. It has a line for each action.
+/// Returns the text to print if the words aren't a valid call. It has a line for each of the seven actions.
 #[tactic(auto, unfolding(crate::specs::Usage::usage_text))]
 pub fn usage_text() -> &'static str
     ensures { result.now ≡ usage_text }

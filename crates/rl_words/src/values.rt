@@ -21,8 +21,8 @@ fn is_numeral(digits: usize, text: &str) -> bool
     !text.is_empty() && text.len() <= digits && has_digits_only(text)
 }
 
-/// Returns the number that the text denotes, or `None` if it doesn't consist of one to `digits` ASCII digits or the number
-/// isn't in the range.
+/// Returns the decimal number that the text denotes, or `None` if the text doesn't consist of one to `digits` ASCII digits or
+/// the number isn't in the range.
 pub(crate) fn number_of(digits: usize, range: NumberRange, text: &str) -> Option<u32>
     ensures value { result ≡ number_of digits range text.now }
     ensures range { IfSome result (IsWithin range) }
@@ -37,7 +37,7 @@ pub(crate) fn number_of(digits: usize, range: NumberRange, text: &str) -> Option
     }
 }
 
-/// Returns the mode that a word names.
+/// Returns the mode that the word names, or `None` if it isn't `fullmatch`, `match` or `search`.
 pub fn mode_of(word: &str) -> Option<ModeWord>
     ensures { result ≡ mode_of word.now }
 {
@@ -49,7 +49,7 @@ pub fn mode_of(word: &str) -> Option<ModeWord>
     }
 }
 
-/// Returns the format that a word names.
+/// Returns the format that the word names, or `None` if it isn't `text`, `brief`, `json` or `sarif`.
 pub fn format_of(word: &str) -> Option<FormatWord>
     ensures { result ≡ format_of word.now }
 {
@@ -62,7 +62,7 @@ pub fn format_of(word: &str) -> Option<FormatWord>
     }
 }
 
-/// Returns the path, or `None` if it is empty.
+/// Returns the path that the text is, or `None` if the text is empty.
 pub(crate) fn path_of<'a>(path: &'a str) -> Option<&'a str>
     ensures { option_map (λ p. p.now) result ≡ path_of path.entry.now }
 {

@@ -1,9 +1,9 @@
 //! Runs the worked rows with files and outputs in memory.
 //!
 //! The rows are in the `*.toml` files of the current folder; the `README.md` beside them explains what a row contains. The
-//! program prints a line for each row that can't be read or whose answer is wrong, and at the end the number of rows that fail.
-//! It writes the number of rows that were run to standard error. Its status is 0 if no row fails, 1 if a row fails or there are
-//! no rows, and 2 if the files can't be read.
+//! program prints a line for each row that can't be read or whose answer is wrong, and at the end the number of rows that
+//! fail. It writes the number of rows that were run to standard error. Its status is 0 if no row fails, 1 if a row fails or
+//! there are no rows, and 2 if the files can't be read.
 #![tactic(auto)]
 
 use rl_lint::relint_main;
@@ -16,6 +16,7 @@ use toml::Value;
 use toml::value::Array;
 use worked_rows::{Failure, Program, judge_value, name_of, values_of};
 
+/// The system that the program runs on.
 type Runtime = HostRuntime;
 
 /// The program `relint`.
@@ -43,6 +44,7 @@ struct Tally {
 }
 
 impl Tally {
+    /// Returns a tally without rows.
     fn new(rt: &Runtime) -> Tally {
         Tally {
             rows: 0,
@@ -75,6 +77,7 @@ impl Tally {
         }
     }
 
+    /// Runs the rows of a file.
     fn run_values(&mut self, rt: &Runtime, file: &str, values: &Array) -> io::Result<()> {
         for (place, value) in values.iter().enumerate() {
             self.tell_row(rt, file, place, value)?;
@@ -100,6 +103,7 @@ fn add_file_name(rt: &Runtime, name: &str, names: &mut Vec<String>) -> io::Resul
     Ok(())
 }
 
+/// Adds the names of the files with rows in the current folder.
 fn add_file_names(rt: &Runtime, names: &mut Vec<String>) -> io::Result<()> {
     for entry in fs::read_dir(rt, ".")? {
         let entry = entry?;
@@ -116,11 +120,13 @@ fn file_names(rt: &Runtime) -> io::Result<Vec<String>> {
     Ok(names)
 }
 
+/// Reads a file and runs its rows.
 fn run_named(rt: &Runtime, name: &str, tally: &mut Tally) -> io::Result<()> {
     let text = fs::read_to_string(rt, name)?;
     tally.run_file(rt, name, text.as_str())
 }
 
+/// Runs the rows of these files, and returns the tally.
 fn run_files(rt: &Runtime, names: &Vec<String>) -> io::Result<Tally> {
     let mut tally = Tally::new(rt);
     for name in names {
@@ -137,6 +143,7 @@ fn report(rt: &Runtime, tally: &Tally) -> io::Result<bool> {
     Ok(*rows > 0 && *failed == 0)
 }
 
+/// Runs the rows of the current folder. Returns whether there were rows and none of them failed.
 fn run(rt: &Runtime) -> io::Result<bool> {
     let names = file_names(rt)?;
     let tally = run_files(rt, &names)?;

@@ -18,7 +18,7 @@ fn chain_of(alloc: Global, graph: &Multigraph) -> Result<Option<Chain>, OutOfMem
     }
 }
 
-/// Whether a chain has no link and no cycle, and `states` ranks that are all 0.
+/// Returns whether a chain has no link and no cycle, and `states` ranks that are all 0.
 fn is_still(chain: &Chain, states: usize) -> bool {
     chain.links.is_empty()
         && chain.ranks.len() == states
@@ -26,6 +26,7 @@ fn is_still(chain: &Chain, states: usize) -> bool {
         && chain.cycle.is_none()
 }
 
+/// Tests a graph of 65,536 states without moves.
 #[test]
 fn many_states_and_no_move(rt: HostRuntime) -> Result<(), OutOfMemory> {
     let graph = graph_of(rt.alloc(), 65_536, &[], 0)?;

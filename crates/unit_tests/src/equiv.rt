@@ -29,6 +29,7 @@ fn star(alloc: Global) -> Result<Re, OutOfMemory>
     Re::many(alloc, set, true)
 }
 
+/// Tests that `[ab]*` equals itself, and that the relation is accepted.
 #[test]
 fn one_language_twice(rt: HostRuntime) -> Result<(), Fail> {
     let star = star(rt.alloc())?;
@@ -41,6 +42,7 @@ fn one_language_twice(rt: HostRuntime) -> Result<(), Fail> {
     Ok(())
 }
 
+/// Tests that `[ab]*` and the empty pattern differ, which the text `a` shows.
 #[test]
 fn two_languages(rt: HostRuntime) -> Result<(), Fail> {
     let star = star(rt.alloc())?;

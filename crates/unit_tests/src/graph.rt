@@ -6,7 +6,7 @@ use crate::moves::graph_of;
 use rl_graph::Multigraph;
 use rl_lists::OutOfMemory;
 
-/// Whether each of the two states has `count` moves, all to itself.
+/// Returns whether each of the two states has `count` moves, all to itself.
 fn lead_back(g: &Multigraph, count: usize) -> bool
     requires states { g.now.states ≡ 2 }
     requires letters { g.now.letters ≡ 1 }

@@ -9,7 +9,7 @@ use std::alloc::Global;
 /// Lengths up to one more than a word, lengths around eight words, and a greater one.
 const LENGTHS: [usize; 9] = [0, 1, 63, 64, 65, 511, 512, 513, 1_100];
 
-/// Whether a place is the last one of a group of `of` places.
+/// Returns whether a place is the last one of a group of `of` places.
 fn is_nth(i: usize, of: usize) -> bool
     requires { 0 < of }
 {
@@ -28,7 +28,7 @@ fn nths(alloc: Global, len: usize, of: usize) -> Result<BitRow, OutOfMemory>
     Ok(row)
 }
 
-/// Whether the union of the second and third places, and their difference, equal those of the lists.
+/// Returns whether the union of the second and third places, and their difference, equal those of the lists.
 fn are_lists(len: usize, union: &BitRow, rest: &BitRow) -> bool
     requires union { length union.now ≡ len }
     requires rest { length rest.now ≡ len }
@@ -44,7 +44,7 @@ fn are_lists(len: usize, union: &BitRow, rest: &BitRow) -> bool
     true
 }
 
-/// Whether the union, the difference and the third places are related as the lists are.
+/// Returns whether the union, the difference and the third places are related as the lists are.
 fn lie(len: usize, union: &BitRow, rest: &BitRow, thirds: &BitRow) -> bool
     requires union { length union.now ≡ len }
     requires rest { length rest.now ≡ len }
@@ -57,8 +57,8 @@ fn lie(len: usize, union: &BitRow, rest: &BitRow, thirds: &BitRow) -> bool
         && rest.is_empty() == (len <= 1)
 }
 
-/// Whether the union of the second and third places, and their difference, equal those of the lists. Both rows begin with the
-/// second places.
+/// Returns whether the union of the second and third places, and their difference, equal those of the lists. Both rows begin
+/// with the second places.
 fn join(
     alloc: Global,
     len: usize,
@@ -75,13 +75,14 @@ fn join(
     Ok(are_counted && lie(len, union, rest, &thirds) && are_lists(len, union, rest))
 }
 
-/// Whether rows of this length are joined as the lists are.
+/// Returns whether rows of this length are joined as the lists are.
 fn join_as_lists(alloc: Global, len: usize) -> Result<bool, OutOfMemory> {
     let mut union = nths(alloc, len, 2)?;
     let mut rest = nths(alloc, len, 2)?;
     join(alloc, len, &mut union, &mut rest)
 }
 
+/// Tests rows of all these lengths.
 #[test]
 fn rows_are_as_the_lists(rt: HostRuntime) -> Result<(), OutOfMemory> {
     for len in LENGTHS {
@@ -99,6 +100,7 @@ const NEXT: [(usize, Option<usize>); 5] = [
     (1_200, None),
 ];
 
+/// Tests the search for the next true place in a row of 1,100 places.
 #[test]
 fn words_of_zeros_are_passed_over(rt: HostRuntime) -> Result<(), OutOfMemory> {
     let row = nths(rt.alloc(), 1_100, 500)?;
@@ -108,8 +110,8 @@ fn words_of_zeros_are_passed_over(rt: HostRuntime) -> Result<(), OutOfMemory> {
     Ok(())
 }
 
-/// Whether a place in a row of a table is true. Every fourth row, from the first one on, has all places, so the three rows
-/// after it are subsets of it.
+/// Returns whether a place in a row of a table is true. Every fourth row, from the first one on, has all places, so the three
+/// rows after it are subsets of it.
 fn is_marked(row: usize, i: usize) -> bool {
     is_nth(i, row % 4 + 1)
 }
@@ -159,7 +161,7 @@ fn fill(table: &mut BitTable, rows: usize, len: usize, all: bool)
     }
 }
 
-/// Whether a place is in the image of a marked table, if the last row of each group of `of` rows is chosen.
+/// Returns whether a place is in the image of a marked table, if the last row of each group of `of` rows is chosen.
 fn is_joined(rows: usize, of: usize, i: usize) -> bool
     requires { 0 < of }
 {
@@ -171,7 +173,7 @@ fn is_joined(rows: usize, of: usize, i: usize) -> bool
     false
 }
 
-/// Whether a row is that image.
+/// Returns whether a row is that image.
 fn are_joined(rows: usize, len: usize, of: usize, into: &BitRow) -> bool
     requires some { 0 < of }
     requires long { length into.now ≡ len }
@@ -184,7 +186,7 @@ fn are_joined(rows: usize, len: usize, of: usize, into: &BitRow) -> bool
     true
 }
 
-/// Whether the image of a marked table is right in a row in which every place was true before.
+/// Returns whether the image of a marked table is right in a row in which every place was true before.
 fn is_image(
     alloc: Global,
     rows: usize,
@@ -214,7 +216,7 @@ fn marked_table(alloc: Global, rows: usize, len: usize) -> Result<BitTable, OutO
     Ok(table)
 }
 
-/// Whether the image of a marked table is right both before and after its runs are found.
+/// Returns whether the image of a marked table is right both before and after its runs are found.
 fn are_images(alloc: Global, rows: usize, len: usize, of: usize) -> Result<bool, OutOfMemory>
     requires { 0 < of }
 {
@@ -238,6 +240,7 @@ static IMAGES: [(usize, usize, usize); 8] = [
     (0, 65, 1),
 ];
 
+/// Tests the images of all these tables.
 #[test]
 fn images_are_unions_of_the_chosen_rows(rt: HostRuntime) -> Result<(), OutOfMemory> {
     for (rows, len, of) in &IMAGES {

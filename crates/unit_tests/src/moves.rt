@@ -6,11 +6,15 @@ use rl_graph::Multigraph;
 use rl_lists::OutOfMemory;
 use std::alloc::Global;
 
-/// A move on the letter 0, as a pair of states.
+/// A move on the letter 0: the state where it begins, and the state to which it leads.
 pub type Move = (u32, u32);
 
-/// Returns the graph with these states, one letter and `times` copies of these moves. Moves outside the graph are left out, and
-/// so are moves of a state that already has 1,000,000.
+/// Returns a graph with `states` states and one letter, to which `moves` are added in order, `times` times over. A move from
+/// or to a number that isn't a state is left out, and so is a move from a state that already has 1,000,000 moves. With `times`
+/// 0 the graph has no moves.
+///
+/// # Errors
+/// [`OutOfMemory`] if memory runs out.
 pub fn graph_of(
     alloc: Global,
     states: u32,

@@ -9,12 +9,12 @@ use std::alloc::Global;
 /// The number of moves from the first of two states to the second, and the targets that are kept on a rank.
 static KEPT: [(u32, &[u32]); 2] = [(3, &[1, 1, 1]), (65_536, &[1])];
 
-/// Whether the first state has these targets.
+/// Returns whether the first state has these targets.
 fn is_kept(level: &Multigraph, kept: &[u32]) -> bool {
     level.states() == 2 && level.letters() == 1 && level.edges(0, 0) == kept
 }
 
-/// Whether these targets are kept of `count` moves.
+/// Returns whether these targets are kept of `count` moves.
 fn are_kept(alloc: Global, count: u32, kept: &[u32]) -> Result<bool, OutOfMemory> {
     let graph = graph_of(alloc, 2, &[(0, 1)], count)?;
     let level = level_graph(alloc, &graph, &[0, 0])?;

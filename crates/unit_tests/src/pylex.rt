@@ -32,6 +32,7 @@ static SOURCES: [(&str, bool); 20] = [
     ("rre.re", false),
 ];
 
+/// Tests the sources, and two with another name.
 #[test]
 fn names_at_a_quick_look(rt: HostRuntime) {
     for (source, wanted) in &SOURCES {
@@ -40,8 +41,8 @@ fn names_at_a_quick_look(rt: HostRuntime) {
     assert!(rt; lacks_name(b"import re\n", b"regex") && !lacks_name(b"import regex\n", b"regex"));
 }
 
-/// Pieces to be put between other letters, and whether a quick look shows that the source lacks the name. It doesn't for pieces
-/// with the name or with a fault.
+/// Pieces to be put between other letters, and whether a quick look shows that the source lacks the name. It doesn't for
+/// pieces with the name or with a fault.
 static PIECES: [(&str, bool); 30] = [
     (" return ", true),
     (" are ", true),

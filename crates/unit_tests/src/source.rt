@@ -27,7 +27,7 @@ fn tree(alloc: Global, paths: &[&str]) -> Result<MemTree, MemTreeError> {
     MemTree::new(alloc, nodes, failing)
 }
 
-/// Whether the second call fails because of its number, and others because the map has no answer.
+/// Returns whether the second call fails because of its number, and others because the map has no answer.
 fn fails(tree: &mut MemTree) -> bool {
     tree.kind("a") == Ok(Kind::Other)
         && tree.kind("a") == Err(TreeError::Failed)
@@ -38,6 +38,7 @@ fn fails(tree: &mut MemTree) -> bool {
         && tree.faults() == 4
 }
 
+/// Tests a tree with one path, whose second call fails.
 #[test]
 fn calls_of_a_tree_fail(rt: HostRuntime) -> Result<(), MemTreeError> {
     let mut tree = tree(rt.alloc(), &["a"])?;
@@ -45,12 +46,14 @@ fn calls_of_a_tree_fail(rt: HostRuntime) -> Result<(), MemTreeError> {
     Ok(())
 }
 
+/// Tests that no tree is made of nodes two of which have the same path.
 #[test]
 fn a_path_stands_once(rt: HostRuntime) {
     let found = tree(rt.alloc(), &["a", "b", "a"]);
     assert!(rt; matches!(found, Err(MemTreeError::DoublePath)));
 }
 
+/// Tests that a name gives back the text that it was made of.
 #[test]
 fn a_name_is_its_text(rt: HostRuntime) -> Result<(), OutOfMemory> {
     let name = Name::from_text(rt.alloc(), "naïve")?;
@@ -66,6 +69,7 @@ static PIECES: [(&[u8], Result<usize, SinkFailed>); 4] = [
     (b"cde", Ok(2)),
 ];
 
+/// Returns whether the sink takes of each piece what the table says, with one fault.
 fn takes_steps(sink: &mut MemSink) -> bool {
     for (piece, answer) in &PIECES {
         if sink.write(piece) != *answer {
@@ -95,7 +99,7 @@ fn a_full_writer_is_a_fault(rt: HostRuntime) {
     assert!(rt; room.as_slice() == b"ab".as_slice());
 }
 
-/// Whether these bytes were read.
+/// Returns whether these bytes were read.
 fn are_read(found: Result<Vec<u8>, TreeError>, wanted: &[u8]) -> bool {
     match found {
         Ok(bytes) => bytes.as_slice() == wanted,
@@ -103,7 +107,7 @@ fn are_read(found: Result<Vec<u8>, TreeError>, wanted: &[u8]) -> bool {
     }
 }
 
-/// Whether the path is a file with these first six bytes, and has no children.
+/// Returns whether the path is a file with these first six bytes, and has no children.
 fn is_file(rt: &HostRuntime, path: &str) -> bool {
     let mut tree = DiskTree::new(rt);
     tree.kind(path) == Ok(Kind::File)

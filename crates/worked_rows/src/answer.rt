@@ -10,15 +10,20 @@ use std::alloc::Global;
 // The number of bytes that an output may hold.
 const ROOM: usize = 1_000_000;
 
-/// The answer of a call: its status, what it wrote, and the number of failed calls of the tree.
+/// The answer of a call of the program.
 #[derive(Drop)]
 pub struct Answer {
+    /// The status with which the call ended.
     pub status: u8,
+    /// What it wrote to standard output. Once it has 1,000,000 bytes, every further write fails.
     pub out: MemSink,
+    /// What it wrote to standard error. Once it has 1,000,000 bytes, every further write fails.
     pub err: MemSink,
+    /// The number of calls of the tree that failed.
     pub tree_faults: u64,
 }
 
+/// Returns the tree of these files, as these words find them; the calls with the numbers in `failing` fail.
 fn tree_of(
     alloc: Global,
     words: &Vec<String>,
@@ -30,17 +35,20 @@ fn tree_of(
     Ok(MemTree::new(alloc, nodes, failing)?)
 }
 
+/// Returns an empty output with these faults.
 fn sink_of(alloc: Global, writes: &Writes) -> Result<MemSink, Failure> {
     let failing = writes.failing.clone()?;
     Ok(MemSink::new(alloc, writes.step.max(1), ROOM, failing)?)
 }
 
+/// Returns two empty outputs with these faults.
 fn sinks_of(alloc: Global, out: &Writes, err: &Writes) -> Result<(MemSink, MemSink), Failure> {
     let out = sink_of(alloc, out)?;
     let err = sink_of(alloc, err)?;
     Ok((out, err))
 }
 
+/// Calls the program with this tree and these outputs, and returns the answer.
 fn answer_over<P: Program>(
     alloc: Global,
     program: &P,
@@ -59,7 +67,8 @@ fn answer_over<P: Program>(
     }
 }
 
-/// Returns the answer to these words with these files. `out` replaces the faults of standard output.
+/// Calls the program with these words, with these files, and with the faults of `faults`, except that the faults of standard
+/// output are those of `out` and not those of `faults.out`. Returns the answer. Fails only if memory runs out.
 pub fn answer_with<P: Program>(
     alloc: Global,
     program: &P,
@@ -73,7 +82,7 @@ pub fn answer_with<P: Program>(
     Ok(answer_over(alloc, program, words, tree, out, err))
 }
 
-/// Returns the answer to these words with these files and faults.
+/// Calls the program with these words, these files and these faults, and returns the answer. Fails only if memory runs out.
 pub fn answer_to<P: Program>(
     alloc: Global,
     program: &P,
@@ -84,7 +93,8 @@ pub fn answer_to<P: Program>(
     answer_with(alloc, program, words, places, faults, &faults.out)
 }
 
-/// Returns the answer to these words with these files if nothing fails.
+/// Calls the program with these words and these files, with no call and no write that fails, and returns the answer. Fails
+/// only if memory runs out.
 pub fn plain_answer_to<P: Program>(
     alloc: Global,
     program: &P,

@@ -1,4 +1,4 @@
-//! Why a row fails.
+//! Why a row fails. A row says what one call of the program must answer.
 
 use rl_lists::OutOfMemory;
 use rl_source::MemTreeError;
@@ -9,7 +9,7 @@ use std::fmt;
 #[derive(Drop)]
 pub enum Failure {
     /// This is wrong with the row.
-    Told(String),
+    Message(String),
     /// Memory ran out.
     OutOfMemory,
 }
@@ -18,13 +18,13 @@ impl Failure {
     /// Returns the failure that a text describes, or that memory ran out while the text was built.
     pub(crate) fn of(text: Result<String, AllocError>) -> Failure {
         match text {
-            Ok(text) => Failure::Told(text),
+            Ok(text) => Failure::Message(text),
             Err(_) => Failure::OutOfMemory,
         }
     }
 
     /// Returns the failure that this text describes.
-    pub(crate) fn told(alloc: Global, text: &str) -> Failure {
+    pub(crate) fn with_message(alloc: Global, text: &str) -> Failure {
         Failure::of(String::from_str(alloc, text))
     }
 }
@@ -32,7 +32,7 @@ impl Failure {
 impl fmt::Display for Failure {
     fn fmt<W: fmt::Write>(&self, f: &mut fmt::Formatter<W>) -> fmt::Result {
         match self {
-            Failure::Told(text) => write!(f, "{text}"),
+            Failure::Message(text) => write!(f, "{text}"),
             Failure::OutOfMemory => write!(f, "out of memory"),
         }
     }
@@ -63,13 +63,15 @@ impl From<MemTreeError> for Failure {
     }
 }
 
+/// Returns the failure that says what the bytes are and what they should be.
 fn differ(alloc: Global, what: &str, got: &[u8], wanted: &[u8]) -> Result<(), Failure> {
     let got = String::from_utf8_lossy(alloc, got)?;
     let wanted = String::from_utf8_lossy(alloc, wanted)?;
     Err(Failure::of(format!(in alloc; "{what} is {got:?} and should be {wanted:?}")))
 }
 
-/// Fails unless the bytes are the expected ones.
+/// Fails unless the bytes `got` are equal to the bytes `wanted`. The failure names them `what` and shows both. If memory runs
+/// out while it is built, the failure says so.
 pub fn same(alloc: Global, what: &str, got: &[u8], wanted: &[u8]) -> Result<(), Failure> {
     if got == wanted {
         Ok(())
@@ -78,7 +80,8 @@ pub fn same(alloc: Global, what: &str, got: &[u8], wanted: &[u8]) -> Result<(), 
     }
 }
 
-/// Fails unless the number is the expected one.
+/// Fails unless the number `got` is equal to `wanted`. The failure names it `what` and shows both numbers. If memory runs out
+/// while it is built, the failure says so.
 pub fn same_number(alloc: Global, what: &str, got: u64, wanted: u64) -> Result<(), Failure> {
     if got == wanted {
         Ok(())

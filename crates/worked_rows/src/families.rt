@@ -18,14 +18,14 @@ struct Shown<'a> {
     line: &'a str,
 }
 
-/// An output without the lines of families, and those lines.
+/// The lines of an output that don't show families, joined again, and the lines that do.
 #[derive(Drop)]
 struct Parted<'a> {
     rest: String,
     shown: Vec<Shown<'a>>,
 }
 
-/// Returns the end of a line, which names a verdict.
+/// Returns the verdict that the end of a line names: what follows its last `: `, or the whole line if it has none.
 fn verdict_of(line: &str) -> &str {
     let line = line.trim_end_matches('\n');
     match line.rsplit_once(": ") {
@@ -35,7 +35,7 @@ fn verdict_of(line: &str) -> &str {
 }
 
 impl<'a> Parted<'a> {
-    /// Adds a line, which comes after the line `before`.
+    /// Adds a line of the output; `before` is the line before it.
     fn add(&mut self, before: &'a str, line: &'a str) -> Result<(), AllocError> {
         if line.starts_with("  family ") {
             let verdict = verdict_of(before);
@@ -47,7 +47,7 @@ impl<'a> Parted<'a> {
     }
 }
 
-/// Returns the line before this one.
+/// Returns the line before the one at this place, or an empty one if it is the first.
 fn line_before<'a>(lines: &[&'a str], place: usize) -> &'a str {
     match place.checked_sub(1) {
         Some(before) => lines.get(before).copied().unwrap_or(""),
@@ -55,6 +55,7 @@ fn line_before<'a>(lines: &[&'a str], place: usize) -> &'a str {
     }
 }
 
+/// Adds all lines of an output.
 fn part_lines<'a>(lines: &[&'a str], parted: &mut Parted<'a>) -> Result<(), AllocError> {
     for (place, line) in lines.iter().enumerate() {
         parted.add(line_before(lines, place), *line)?;
@@ -79,6 +80,7 @@ enum Reading {
     Digits(u32, u32),
 }
 
+/// Returns the number with one more hexadecimal digit at its end.
 fn with_digit(number: u32, c: char) -> u32 {
     number
         .saturating_mul(16)
@@ -105,7 +107,7 @@ fn after(reading: Reading, before: char, c: char) -> Reading {
     }
 }
 
-/// Returns the character of the text that this character completes, if it completes one.
+/// Returns the character of the text that the reader has read with this character, or `None` if it has read none.
 fn ended_by(reading: Reading, c: char) -> Option<char> {
     match (reading, c) {
         (Reading::Between, _) => None,
@@ -132,6 +134,7 @@ struct Family {
 }
 
 impl Family {
+    /// Adds a character to the last text.
     fn push(&mut self, c: char) -> Result<(), AllocError> {
         if let Some(text) = self.texts.last_mut() {
             text.push(c)?;
@@ -164,10 +167,12 @@ impl Family {
         Ok(family)
     }
 
+    /// Returns the number of pumps.
     fn pumps(&self) -> usize {
         self.texts.len() / 2
     }
 
+    /// Returns whether one of the pumps is empty.
     fn has_empty_pump(&self) -> bool {
         for (place, text) in self.texts.iter().enumerate() {
             if place % 2 == 1 && text.is_empty() {
@@ -177,8 +182,8 @@ impl Family {
         false
     }
 
-    /// Whether the family has as many pumps as the verdict requires and none of them is empty; `degree` is the verdict of that
-    /// degree.
+    /// Returns whether the family has as many pumps as the verdict requires and none of them is empty; `degree` is the verdict
+    /// of that degree.
     fn fits(&self, verdict: &str, degree: &str) -> bool {
         let is_told = verdict == degree || verdict == "exponential" && self.pumps() == 1;
         is_told && self.texts.len() % 2 == 1 && !self.has_empty_pump()
@@ -206,6 +211,7 @@ impl Family {
     }
 }
 
+/// Returns a power, or 2^64 - 1 if it is larger.
 fn power(base: u64, exponent: u64) -> u64 {
     let mut power = 1u64;
     for _ in 0..exponent {
@@ -214,7 +220,8 @@ fn power(base: u64, exponent: u64) -> u64 {
     power
 }
 
-/// Returns the number in a line `steps N matched` or `steps N refused`.
+/// Returns the number in a line `steps N matched` or `steps N refused`, or `None` for any other line or a number of more than
+/// 64 bits.
 fn steps_of(out: &[u8]) -> Option<u64> {
     let line = str::from_utf8(out).ok()?;
     let (number, _) = line.strip_prefix("steps ")?.split_once(' ')?;
@@ -291,6 +298,7 @@ impl Trial<'_> {
         }
     }
 
+    /// Fails unless the family is one that shows the verdict.
     fn judge_form(self, alloc: Global) -> Result<(), Failure> {
         let Shown { verdict, line } = self.shown;
         let pumps = self.family.pumps();
@@ -302,6 +310,7 @@ impl Trial<'_> {
         }
     }
 
+    /// Fails unless the family shows the verdict, and its texts for the numbers from 0 to `greatest` cost enough.
     fn judge<P: Program>(self, alloc: Global, program: &P, greatest: u64) -> Result<(), Failure> {
         self.judge_form(alloc)?;
         for times in 0..=greatest {
@@ -340,7 +349,9 @@ fn mode_of(words: &Vec<String>) -> &str {
     "fullmatch"
 }
 
-/// Compares an output of `class` without its family, and tries the family up to this number. The pattern is the last word.
+/// Fails unless the output of `class` without the line of its family is `wanted`, it shows one family, and the family's texts
+/// for the numbers from 0 to `greatest` cost at least what the verdict says. `words` are the words of the call of `class`: the
+/// pattern is the last one, and the mode is the one after `--mode`, or `fullmatch` if there is none.
 pub fn judge_class<P: Program>(
     alloc: Global,
     program: &P,
@@ -359,7 +370,9 @@ pub fn judge_class<P: Program>(
     judge_families(alloc, program, output, wanted, &[printed], greatest)
 }
 
-/// Compares a report without the lines of families, and tries each family.
+/// Fails unless the report without the lines of families is `wanted`, it shows as many families as are given, and the texts of
+/// each for the numbers from 0 to 6 cost at least what its verdict says. The families are given in order, each by its pattern
+/// and its mode.
 pub fn judge_report<P: Program>(
     alloc: Global,
     program: &P,
@@ -393,6 +406,7 @@ fn judge_shown<P: Program>(
     Ok(())
 }
 
+/// Compares an output without the lines of families, and tries each family.
 fn judge_parted<P: Program>(
     alloc: Global,
     program: &P,
@@ -408,6 +422,7 @@ fn judge_parted<P: Program>(
     judge_shown(alloc, program, parted.shown.as_slice(), families, greatest)
 }
 
+/// Compares an output in UTF-8 without the lines of families, and tries each family.
 fn judge_text<P: Program>(
     alloc: Global,
     program: &P,
@@ -426,6 +441,7 @@ fn judge_text<P: Program>(
     }
 }
 
+/// Compares an output without the lines of families, and tries each family. An output that isn't UTF-8 fails.
 fn judge_families<P: Program>(
     alloc: Global,
     program: &P,
@@ -436,6 +452,6 @@ fn judge_families<P: Program>(
 ) -> Result<(), Failure> {
     match str::from_utf8(output) {
         Ok(output) => judge_text(alloc, program, output, wanted, families, greatest),
-        Err(_) => Err(Failure::told(alloc, "standard output isn't UTF-8")),
+        Err(_) => Err(Failure::with_message(alloc, "standard output isn't UTF-8")),
     }
 }

@@ -1,5 +1,6 @@
-//! The fields of a row, by the types of their values. Values that may be long are added to a list; a field that is missing adds
-//! nothing.
+//! The fields of a row, by the types of their values. Values that may be long are added to a list; a field that is missing
+//! adds nothing, unless it is required, and a value of the wrong type or range is a failure. A text is a string or a table
+//! that spells bytes.
 
 use crate::failure::Failure;
 use crate::text::{add_text, string_of};
@@ -7,7 +8,7 @@ use std::alloc::Global;
 use toml::value::Array;
 use toml::{Table, Value};
 
-/// Returns the failure for a field with a value of the wrong type or range.
+/// Returns the failure for the field `key` if its value has the wrong type or range.
 pub fn refused(alloc: Global, key: &str) -> Failure {
     Failure::of(format!(in alloc; "the value of {key} isn't one that it takes"))
 }
@@ -22,7 +23,7 @@ fn unknown(alloc: Global, key: &str) -> Failure {
     Failure::of(format!(in alloc; "the field {key} isn't known"))
 }
 
-/// Refuses a table that has other fields than these.
+/// Fails if the table has a field that isn't among `keys`. The failure names the first such field.
 pub fn has_only<'a>(alloc: Global, table: &'a Table, keys: &[&'a str]) -> Result<(), Failure> {
     for key in table.keys() {
         if !keys.contains(&key.as_str()) {
@@ -32,7 +33,8 @@ pub fn has_only<'a>(alloc: Global, table: &'a Table, keys: &[&'a str]) -> Result
     Ok(())
 }
 
-/// Adds the bytes of the text in a field, if the field is there.
+/// Adds the bytes that the text in the field `key` spells to `bytes`; adds nothing if the field is missing. Fails if its value
+/// isn't a text.
 pub fn add_bytes_at(
     alloc: Global,
     table: &Table,
@@ -45,7 +47,7 @@ pub fn add_bytes_at(
     }
 }
 
-/// Returns the string in a field, if the field is there.
+/// Returns the string in a field, or `None` if the field is missing. Fails if its value isn't a string.
 pub fn string_at<'a>(
     alloc: Global,
     table: &'a Table,
@@ -58,7 +60,7 @@ pub fn string_at<'a>(
     }
 }
 
-/// Returns the string in a required field.
+/// Returns the string in a field. Fails if the field is missing or isn't a string.
 pub fn needed_at<'a>(alloc: Global, table: &'a Table, key: &str) -> Result<&'a String, Failure> {
     match table.get(key) {
         Some(Value::String(text)) => Ok(text),
@@ -67,11 +69,12 @@ pub fn needed_at<'a>(alloc: Global, table: &'a Table, key: &str) -> Result<&'a S
     }
 }
 
+/// Returns the number that a value holds, or `None` if it isn't a number from 0 up.
 fn number_of(value: &Value) -> Option<u64> {
     u64::try_from(value.as_integer()?).ok()
 }
 
-/// Returns the number in a field, if the field is there.
+/// Returns the whole number in a field, or `None` if the field is missing. Fails if its value isn't a whole number from 0 up.
 pub fn number_at(alloc: Global, table: &Table, key: &str) -> Result<Option<u64>, Failure> {
     match table.get(key) {
         Some(value) => match number_of(value) {
@@ -82,7 +85,7 @@ pub fn number_at(alloc: Global, table: &Table, key: &str) -> Result<Option<u64>,
     }
 }
 
-/// Whether a field is there and is true.
+/// Returns the truth value in a field, or false if the field is missing. Fails if its value isn't a truth value.
 pub fn is_set(alloc: Global, table: &Table, key: &str) -> Result<bool, Failure> {
     match table.get(key) {
         Some(Value::Boolean(is_set)) => Ok(*is_set),
@@ -91,7 +94,7 @@ pub fn is_set(alloc: Global, table: &Table, key: &str) -> Result<bool, Failure> 
     }
 }
 
-/// Returns the list in a field, if the field is there.
+/// Returns the list in a field, or `None` if the field is missing. Fails if its value isn't a list.
 pub fn list_at<'a>(
     alloc: Global,
     table: &'a Table,
@@ -104,7 +107,8 @@ pub fn list_at<'a>(
     }
 }
 
-/// Adds the numbers in a field, if the field is there.
+/// Adds the whole numbers in the list in the field `key` to `numbers`, in order; adds nothing if the field is missing. Fails
+/// if its value isn't a list of whole numbers from 0 up; then some of them may have been added.
 pub fn add_numbers_at(
     alloc: Global,
     table: &Table,
@@ -122,6 +126,7 @@ pub fn add_numbers_at(
     Ok(())
 }
 
+/// Adds the strings that these texts spell.
 fn add_words(alloc: Global, values: &Array, words: &mut Vec<String>) -> Result<(), Failure> {
     for value in values {
         let word = string_of(alloc, value)?;
@@ -130,7 +135,8 @@ fn add_words(alloc: Global, values: &Array, words: &mut Vec<String>) -> Result<(
     Ok(())
 }
 
-/// Adds the words in a required field.
+/// Adds the words that the texts in the list in the field `key` spell to `words`, in order. Fails if the field is missing,
+/// isn't a list, or has an item that isn't a text whose bytes are UTF-8; then some words may have been added.
 pub fn add_words_at(
     alloc: Global,
     table: &Table,

@@ -1,4 +1,4 @@
-//! Running a row, and comparing the results with what the row expects.
+//! Running a row, which is one call of the program, and comparing the results with what the row expects.
 
 use crate::answer::{Answer, answer_to, answer_with, plain_answer_to};
 use crate::failure::{Failure, same, same_number};
@@ -43,6 +43,7 @@ fn put_written<P: Program>(
     put_output(alloc, &answer, call.save.as_str(), places)
 }
 
+/// Makes the files that the row's call finds: `files`, then what the calls of `before` write, then `then`.
 fn put_setting<P: Program>(
     alloc: Global,
     program: &P,
@@ -90,12 +91,13 @@ fn put_certificate<P: Program>(
     put_made(alloc, &made, places)
 }
 
-/// Whether an output is one line that begins with this text.
+/// Returns whether an output is one line that begins with this text.
 fn is_line(output: &[u8], begins: &str) -> bool {
     let line_ends = output.iter().filter(|&&byte| byte == b'\n').count();
     output.starts_with(begins.as_bytes()) && output.ends_with(b"\n") && line_ends == 1
 }
 
+/// Compares standard output, in the form that the row expects.
 fn judge_stdout<P: Program>(
     alloc: Global,
     program: &P,
@@ -224,6 +226,8 @@ fn judge_cut<P: Program>(
     judge_piece(alloc, &row.expected, &answered, cut)
 }
 
+/// Makes the call once for each byte of the whole output, which must have at least 100 bytes. In each of these calls the write
+/// of that byte fails.
 fn judge_cuts<P: Program>(
     alloc: Global,
     program: &P,
@@ -234,7 +238,7 @@ fn judge_cuts<P: Program>(
     ended_well(alloc, whole.status)?;
     let report = whole.out.bytes();
     if report.len() < 100 {
-        return Err(Failure::told(alloc, "standard output has less than 100 bytes"));
+        return Err(Failure::with_message(alloc, "standard output has less than 100 bytes"));
     }
     for place in 0..report.len() {
         judge_cut(alloc, program, row, places, &report[..place])?;
@@ -298,7 +302,7 @@ fn add_name(alloc: Global, name: &str, names: &mut BTreeSet<String>) -> Result<(
     if names.insert(name)? {
         Ok(())
     } else {
-        Err(Failure::told(alloc, "another row has this name"))
+        Err(Failure::with_message(alloc, "another row has this name"))
     }
 }
 
@@ -321,11 +325,12 @@ fn read_and_judge<'a, P: Program>(
     judge(alloc, program, row)
 }
 
-/// Reads the row that a value holds, adds its name to the names of the rows before it, and runs it.
+/// Reads the row that `value` holds, adds its name to `names`, which are the names of the rows before it, runs the row with
+/// `program`, and fails unless the program answers as the row expects.
 ///
 /// # Errors
-/// [`Failure::Told`] if the value isn't a row, if another row has the same name, or if the program doesn't answer as the row
-/// expects; [`Failure::OutOfMemory`] if memory runs out.
+/// [`Failure::Message`] if the value isn't a row, if another row has the same name, or if the program doesn't answer as the
+/// row expects; [`Failure::OutOfMemory`] if memory runs out.
 pub fn judge_value<P: Program>(
     alloc: Global,
     program: &P,

@@ -15,7 +15,7 @@
 //! ```
 //! let values = values_of(alloc, text)?; // where `text` begins with `[[row]]`
 //! for value in &values {
-//!     judge_value(alloc, &program, &mut names, value)?; // Err(Failure::Told(..)): `the status is 2 and should be 0`
+//!     judge_value(alloc, &program, &mut names, value)?; // Err(Failure::Message(..)): `the status is 2 and should be 0`
 //! }
 //! ```
 //!

@@ -5,7 +5,8 @@ use std::alloc::Global;
 
 /// A program that is called with words and works on a tree and two outputs in memory.
 pub trait Program {
-    /// Runs the program with these words and returns its status.
+    /// Runs the program with these words, which come after its name, and returns its status. It reads `tree` and writes to
+    /// `out` and `err`.
     fn run(
         &self,
         alloc: Global,

@@ -13,6 +13,7 @@ use std::alloc::{AllocError, Global};
 use toml::value::Array;
 use toml::{Table, Value};
 
+/// The fields of a row.
 const FIELDS: [&str; 20] = [
     "name",
     "words",
@@ -42,6 +43,7 @@ const FIELDS_OF_CALL: [&str; 2] = ["words", "save"];
 // The fields of an item in `families`.
 const FIELDS_OF_FAMILY: [&str; 2] = ["pattern", "mode"];
 
+/// Returns the TOML document that a text holds.
 fn document_of(alloc: Global, text: &str) -> Result<Table, Failure> {
     match toml::table_from_str(alloc, text) {
         Ok(document) => Ok(document),
@@ -49,20 +51,22 @@ fn document_of(alloc: Global, text: &str) -> Result<Table, Failure> {
     }
 }
 
-/// Returns the values of a file's rows.
+/// Returns the values of a file's rows, which are the items of its array `row`.
 ///
 /// # Errors
-/// [`Failure::Told`] if the text isn't TOML, contains anything besides rows, or contains no rows; [`Failure::OutOfMemory`] if
+/// [`Failure::Message`] if the text isn't TOML, has no array `row`, or has any other key; [`Failure::OutOfMemory`] if
 /// memory runs out.
 pub fn values_of(alloc: Global, text: &str) -> Result<Array, Failure> {
     let mut document = document_of(alloc, text)?;
     match document.remove("row") {
         Some(Value::Array(values)) if document.is_empty() => Ok(values),
-        _ => Err(Failure::told(alloc, "there has to be [[row]], and nothing else")),
+        _ => Err(Failure::with_message(alloc, "there has to be [[row]], and nothing else")),
     }
 }
 
-/// Returns the file and the name of a row, or the file and the row's number if the row has no name.
+/// Returns how a failure names the row that `value` holds: `FILE: NAME` if the value is a table with a string under `name`,
+/// otherwise `FILE: row N`. `place` is the number of the row in its file counted from 0, and `N` is the same number counted
+/// from 1.
 ///
 /// # Errors
 /// [`AllocError`] if memory runs out.
@@ -79,17 +83,20 @@ pub fn name_of(
     }
 }
 
-/// Reads the row that a value holds into an empty one.
+/// Reads the row that a value holds into `row`, which must be as `empty_row` returns it. Fails if the value isn't a table, if
+/// it has a field that rows don't have, if it has no `name` or no `words`, if more than one of `stable`, `round` and
+/// `every_call` is set, or if the value of a field that is read is wrong.
 pub fn read_row<'a>(alloc: Global, value: &'a Value, row: &mut Row<'a>) -> Result<(), Failure> {
     match value {
         Value::Table(table) => {
             has_only(alloc, table, &FIELDS)?;
             read_fields(alloc, table, row)
         }
-        _ => Err(Failure::told(alloc, "it is no table")),
+        _ => Err(Failure::with_message(alloc, "it is no table")),
     }
 }
 
+/// Reads the fields of a row.
 fn read_fields<'a>(alloc: Global, table: &'a Table, row: &mut Row<'a>) -> Result<(), Failure> {
     row.calls = calls_of(alloc, table)?;
     row.name = needed_at(alloc, table, "name")?.as_str();
@@ -115,6 +122,8 @@ fn item<'a>(
     }
 }
 
+/// Returns what is at a path: a folder if the path ends in `/`, a link if the value has `link`, and otherwise the bytes of a
+/// text.
 fn file_of(alloc: Global, path: &str, value: &Value) -> Result<File, Failure> {
     if path.ends_with('/') {
         return Ok(File::Folder);
@@ -125,6 +134,7 @@ fn file_of(alloc: Global, path: &str, value: &Value) -> Result<File, Failure> {
     }
 }
 
+/// Adds a path and what is there.
 fn add_file<'a>(
     alloc: Global,
     path: &'a String,
@@ -136,6 +146,7 @@ fn add_file<'a>(
     Ok(())
 }
 
+/// Adds the paths of a table and what is there.
 fn add_files<'a>(
     alloc: Global,
     values: &'a Table,
@@ -147,6 +158,7 @@ fn add_files<'a>(
     Ok(())
 }
 
+/// Adds the files in a field, if the field is there.
 fn add_files_at<'a>(
     alloc: Global,
     table: &'a Table,
@@ -160,6 +172,7 @@ fn add_files_at<'a>(
     }
 }
 
+/// Adds a call of `before`.
 fn add_call<'a>(
     alloc: Global,
     value: &'a Value,
@@ -173,6 +186,7 @@ fn add_call<'a>(
     Ok(())
 }
 
+/// Adds the calls in the field `before`, if it is there.
 fn add_calls_at<'a>(
     alloc: Global,
     table: &'a Table,
@@ -186,6 +200,7 @@ fn add_calls_at<'a>(
     Ok(())
 }
 
+/// Reads the files and the calls that come before the row's own call.
 fn read_setting<'a>(
     alloc: Global,
     table: &'a Table,
@@ -196,6 +211,7 @@ fn read_setting<'a>(
     add_files_at(alloc, table, "then", &mut setting.then)
 }
 
+/// Returns which calls are made with the row's words. At most one of `stable`, `round` and `every_call` may be set.
 fn calls_of(alloc: Global, table: &Table) -> Result<Calls, Failure> {
     let stable = is_set(alloc, table, "stable")?;
     let round = is_set(alloc, table, "round")?;
@@ -205,10 +221,14 @@ fn calls_of(alloc: Global, table: &Table) -> Result<Calls, Failure> {
         (true, false, false) => Ok(Calls::Same),
         (false, true, false) => Ok(Calls::Verified),
         (false, false, true) => Ok(Calls::EachWrite),
-        _ => Err(Failure::told(alloc, "only one of stable, round and every_call may be set")),
+        _ => Err(Failure::with_message(
+            alloc,
+            "only one of stable, round and every_call may be set",
+        )),
     }
 }
 
+/// Reads the faults of one output from the fields `failing` and `step`.
 fn read_writes(
     alloc: Global,
     table: &Table,
@@ -222,12 +242,14 @@ fn read_writes(
     add_numbers_at(alloc, table, failing, &mut writes.failing)
 }
 
+/// Reads the faults of the file system and of both outputs.
 fn read_faults(alloc: Global, table: &Table, faults: &mut Faults) -> Result<(), Failure> {
     add_numbers_at(alloc, table, "tree_failing", &mut faults.tree)?;
     read_writes(alloc, table, "out_failing", "out_step", &mut faults.out)?;
     read_writes(alloc, table, "err_failing", "err_step", &mut faults.err)
 }
 
+/// Adds an item of `families`.
 fn add_family<'a>(
     alloc: Global,
     value: &'a Value,
@@ -240,6 +262,7 @@ fn add_family<'a>(
     Ok(())
 }
 
+/// Adds the items of `families`.
 fn add_families<'a>(
     alloc: Global,
     values: &'a Array,
@@ -251,6 +274,7 @@ fn add_families<'a>(
     Ok(())
 }
 
+/// Reads how standard output is compared, by the first of `begins`, `family` and `families` that is there.
 fn read_form<'a>(
     alloc: Global,
     table: &'a Table,
@@ -275,6 +299,7 @@ fn read_form<'a>(
     }
 }
 
+/// Returns the expected status: 0 if the field is missing.
 fn status_of(alloc: Global, table: &Table) -> Result<u8, Failure> {
     let status = number_at(alloc, table, "status")?.unwrap_or(0);
     match u8::try_from(status) {
@@ -283,6 +308,7 @@ fn status_of(alloc: Global, table: &Table) -> Result<u8, Failure> {
     }
 }
 
+/// Reads what the row's call must answer.
 fn read_expected<'a>(
     alloc: Global,
     table: &'a Table,

@@ -12,10 +12,12 @@ const TOP: &str = ".";
 /// Files by their paths.
 type Files = BTreeMap<String, File>;
 
-/// The files and folders below the folder in which a row is run.
+/// The folder in which a row is run, with the files and folders in it.
 #[derive(Drop)]
 pub struct Places {
+    /// The allocator of the paths and bytes.
     alloc: Global,
+    /// What is at each path.
     files: Files,
 }
 
@@ -30,6 +32,7 @@ struct Place<'a> {
 type Spellings<'a> = BTreeMap<String, Place<'a>>;
 
 impl Place<'_> {
+    /// Returns the kind of the place: a file, a folder, or neither.
     fn kind(self) -> Kind {
         match self.file {
             File::Holds(_) => Kind::File,
@@ -47,7 +50,7 @@ impl Place<'_> {
 }
 
 impl Places {
-    /// Returns an empty folder.
+    /// Returns places with nothing in the folder in which the row is run.
     pub fn new(alloc: Global) -> Result<Places, OutOfMemory> {
         let files = Files::new(alloc);
         let mut places = Places { alloc, files };
@@ -55,6 +58,7 @@ impl Places {
         Ok(places)
     }
 
+    /// Adds what is at a path, in place of what was there.
     fn put(&mut self, path: &str, file: File) -> Result<(), OutOfMemory> {
         let path = String::from_str(self.alloc, path)?;
         self.files.insert(path, file)?;
@@ -80,17 +84,19 @@ impl Places {
         Ok(())
     }
 
+    /// Adds a file with these bytes, without the folders above it.
     fn put_bytes(&mut self, path: &str, bytes: &[u8]) -> Result<(), OutOfMemory> {
         let bytes = Vec::from_slice(self.alloc, bytes)?;
         self.put(path, File::Holds(bytes))
     }
 
-    /// Adds a file, which replaces whatever is at the path.
+    /// Adds a file with these bytes, and the folders above it. Each replaces whatever is at its path.
     pub fn put_file(&mut self, path: &str, bytes: &[u8]) -> Result<(), OutOfMemory> {
         self.put_above(path)?;
         self.put_bytes(path, bytes)
     }
 
+    /// Adds one file of a row, with the folders above it.
     fn put_one(&mut self, path: &str, file: &File) -> Result<(), OutOfMemory> {
         self.put_above(path)?;
         match file {
@@ -100,7 +106,7 @@ impl Places {
         }
     }
 
-    /// Adds the files of a row.
+    /// Adds the files of a row in order, each with the folders above it. Each replaces whatever is at its path.
     pub fn put_all(&mut self, files: &Vec<Placed<'_>>) -> Result<(), OutOfMemory> {
         for placed in files {
             self.put_one(placed.path.as_str(), &placed.file)?;
@@ -131,12 +137,14 @@ impl Places {
         Ok(())
     }
 
+    /// Returns a folder with what is in it.
     fn folder(&self, path: &str) -> Result<Held, OutOfMemory> {
         let mut children = Children::new(self.alloc);
         self.add_children(path, &mut children)?;
         Ok(Held::Folder(children))
     }
 
+    /// Returns what a node of the tree has at this place.
     fn held(&self, place: Place<'_>) -> Result<Held, OutOfMemory> {
         match place.file {
             File::Holds(bytes) => Ok(Held::File(Content::from_slice(
@@ -191,6 +199,7 @@ impl Places {
         self.add_below(word, wanted.as_str(), spellings)
     }
 
+    /// Adds the places at and below the paths that these words spell, except words that are empty or begin with `/`.
     fn add_words<'a>(
         &'a self,
         words: &Vec<String>,
@@ -215,6 +224,7 @@ impl Places {
         self.add_words(words, spellings)
     }
 
+    /// Adds the node of a place.
     fn add_node(
         &self,
         spelling: &str,
@@ -226,6 +236,7 @@ impl Places {
         Ok(())
     }
 
+    /// Adds the nodes of all places.
     fn add_nodes(&self, spellings: &Spellings<'_>, nodes: &mut Nodes) -> Result<(), OutOfMemory> {
         for (spelling, place) in spellings {
             self.add_node(spelling.as_str(), *place, nodes)?;
@@ -240,7 +251,8 @@ impl Places {
         self.add_nodes(&spellings, nodes)
     }
 
-    /// Returns the nodes of a tree with these files, as a call with these words finds them.
+    /// Returns the nodes of a tree with these files. The tree finds each of them by its path and by the spellings of the path
+    /// that these words give, such as `./a.py` for `a.py`.
     pub fn nodes(&self, words: &Vec<String>) -> Result<Nodes, OutOfMemory> {
         let mut nodes = Nodes::new(self.alloc);
         self.add_all(words, &mut nodes)?;

@@ -13,7 +13,7 @@ abbrev pub ending_of : Plan → Ending
 ending_of (Refuses text) = refuses (string_bytes text)
 ending_of (Writes text differs) = writes (string_bytes text) differs
 
--- The ending by a right answer.
+-- Holds if the ending is the one by a right answer to the question.
 pub record IsPlanFor (q : Asked) (ending : Ending) : Type 0 where
   pub found : Answer
   pub right : IsRight q found

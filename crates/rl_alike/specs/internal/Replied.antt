@@ -12,18 +12,18 @@ use Rattle.rl_alike.specs.declared.replies.Reply.TheVariants.{Fixed, Made}
 use Rattle.rl_alike.specs.declared.replies.RepliesEnd.{RepliesEnd}
 use Rattle.rl_alike.specs.declared.replies.RepliesEnd.TheVariants.{AtEnd, Unreadable, WriteFault, OutOfMemory}
 
--- The bytes of a reply.
+-- The bytes of the program's `Reply`.
 abbrev pub reply_bytes : Reply → Text
 reply_bytes (Fixed text) = text.now
 reply_bytes (Made line) = line
 
--- The line of a right answer.
+-- Holds if the line is that of a right answer to the question.
 pub record AnswersWell (q : Asked) (line : Text) : Type 0 where
   pub found : Answer
   pub right : IsRight q found
   pub is : line ≡ reply_text q.terms found
 
--- What was written up to the end of the replies.
+-- What the output gained, by how the replies ended.
 abbrev pub RepliesUntil : Option Text → SinkChange → RepliesEnd → Type 0
 RepliesUntil input out AtEnd = WritesAllReplies input out
 RepliesUntil input out Unreadable = WritesReplies input out

@@ -1,4 +1,9 @@
--- A search for a word that leads a pair of states to itself and one middle state to another one, by rows of middle states.
+-- For the contracts of private functions: the search for the word of a split. It goes over triples of states that move
+-- side by side on the same letters. The outer two are a pair of one part of the product of two copies of the graph of
+-- inner moves, and the middle one is a state of the graph. The word must lead one pair, the goal pair, back to itself,
+-- and the middle state `from` to the middle state `to`. The middle states that were met together beside a pair are kept
+-- as a row of bits. A pair's place is its index among the pairs of its part. A step is a letter with the number of the
+-- step that it follows; steps are numbered from 1, and 0 means the start.
 use Rattle.std.specs.Prelude.{◌≡◌, ℕ, ◌+◌, ◌<◌, ◌≤◌, ◌⊎◌, ◌↔◌, Bool, true, false, not, List, [], ◌∷◌, ◌++◌, length, replicate, slice_index, slice_index_or, slice_set, if◌then◌else◌}
 use Rattle.rl_lanes.specs.Rows.{list_or, list_and_not, IsSubset, HasOther}
 use Rattle.rl_graph.specs.Paths.{total, one, Has, paths}
@@ -12,8 +17,8 @@ use Rattle.rl_degree.specs.declared.rows.Step.{Step}
 use Rattle.rl_degree.specs.declared.rows.Found.{Found}
 use Rattle.rl_degree.specs.declared.rows.SplitSearch.{SplitSearch}
 
--- What a search goes over: the number of states, the moves of the middle state, the moves of the outer pair, the pairs of the
--- part, and the place of each pair among them.
+-- What a search goes over: the number of states of the graph, the moves of the middle state (`next`), the moves of a
+-- pair in the product (`pairs`), the pairs of the part (`members`), and the place of each pair among them.
 pub record Field : Type 0 where
   pub states : ℕ
   pub next : ℕ → ℕ → List ℕ
@@ -21,7 +26,7 @@ pub record Field : Type 0 where
   pub members : List ℕ
   pub places : List ℕ
 
--- The field of a part of the product.
+-- The field of a search over the pairs of a part.
 abbrev pub field_of : Graph → PairTable → ℕ → Field
 field_of g t part =
     record {
@@ -32,9 +37,10 @@ field_of g t part =
       places = (lists_of t.placed).places;
     }
 
--- A search: whether it keeps its steps, the place of its pair, the middle states that its word leads from and to, and its
--- lists.
-pub record Stand : Type 0 where
+-- The state of a search: whether it keeps its steps, the place of the goal pair, the middle states `from` and `to`, the
+-- middle states that were seen beside the pair at each place, the steps, and the rows that were found and not followed
+-- yet.
+pub record SearchState : Type 0 where
   pub keeps : Bool
   pub place : ℕ
   pub from : ℕ
@@ -43,8 +49,9 @@ pub record Stand : Type 0 where
   pub steps : List Step
   pub queue : List Found
 
-abbrev pub stand_of : SplitSearch → Stand
-stand_of s =
+-- The state of the program's search.
+abbrev pub search_state_of : SplitSearch → SearchState
+search_state_of s =
     record {
       keeps = s.keeps;
       place = s.place;
@@ -55,26 +62,27 @@ stand_of s =
       queue = s.queue.items;
     }
 
--- The middle state is among those that were found.
+-- True if the row that was found has the middle state `m`.
 abbrev pub has_middle : Found → ℕ → Bool
 has_middle f m = slice_index_or f.middle m false
 
--- The pair that the middle states were found beside.
+-- The pair beside which the row was found.
 abbrev pub outer_of : Field → Found → ℕ
 outer_of d f = slice_index d.members f.place
 
--- The moves of that pair on a letter.
+-- The moves, on the letter `l`, of the pair beside which the row was found.
 abbrev pub outer_moves : Field → Found → ℕ → List ℕ
 outer_moves d f l = d.pairs (outer_of d f) l
 
--- The row with one state.
+-- A row of `n` bits in which only the bit of the state `m` is true.
 abbrev pub row_with : ℕ → ℕ → List Bool
 row_with n m = slice_set (replicate n false) m true
 
--- At the start the middle state was seen beside the pair, and waits in the queue. The states of the row `hopeless` were seen
--- beside each pair.
-abbrev pub start_stand : Bool → List Bool → ℕ → ℕ → ℕ → ℕ → Stand
-start_stand keeps hopeless pairs place from to =
+-- The start of a search over a part with `pairs` pairs, for a word that leads the middle state `from` to the middle
+-- state `to`. `keeps` says whether the search keeps its steps. Beside the goal pair, at `place`, the middle state
+-- `from` was found and waits to be followed. The states of the row `hopeless` count as seen beside each pair.
+abbrev pub start_state : Bool → List Bool → ℕ → ℕ → ℕ → ℕ → SearchState
+start_state keeps hopeless pairs place from to =
     record {
       keeps = keeps;
       place = place;
@@ -85,34 +93,39 @@ start_stand keeps hopeless pairs place from to =
       queue = record { step = 0; place = place; middle = row_with (length hopeless) from } ∷ [];
     }
 
--- The words of the steps, after the words of the steps before them.
+-- The list `words`, followed by one word for each step, in order. The word of a step `s` is the word with the index
+-- `s.from` in the list so far, or the empty word if there is none, with the letter `s.letter` appended.
 abbrev pub words_from : List (List ℕ) → List Step → List (List ℕ)
 words_from words [] = words
 words_from words (s ∷ steps) = words_from (words ++ (slice_index_or words s.from [] ++ s.letter ∷ []) ∷ []) steps
 
--- The word of a step: the word of the step that it follows, and its letter. The start has the number 0 and the empty word.
+-- The word of the step with the number `k`: the word of the step that it follows, with its letter appended. Steps are
+-- numbered from 1, and the number 0 stands for the start, whose word is empty.
 abbrev pub word_at : List Step → ℕ → List ℕ
 word_at steps k = slice_index_or (words_from ([] ∷ []) steps) k []
 
--- Each step follows an earlier one, or the start.
+-- Holds if each step follows an earlier step or the start.
 abbrev pub IsRooted : List Step → Type 0
 IsRooted steps = (k : ℕ) (s : Step) → k < length steps → (slice_index_or steps k s).from ≤ k
 
--- The steps tell the word of one of them.
+-- Holds if the steps define the word of the step with the number `step`: there is such a step or it is 0, and each step
+-- follows an earlier one or the start.
 pub record HasWord (steps : List Step) (step : ℕ) : Type 0 where
   pub rooted : IsRooted steps
   pub step_in : step ≤ length steps
 
--- The steps with one more, if steps are kept.
-abbrev pub steps_with : ℕ → ℕ → Stand → List Step
+-- The steps with a new one appended, which follows the step `from` on `letter`. If the search keeps no steps, they are
+-- unchanged.
+abbrev pub steps_with : ℕ → ℕ → SearchState → List Step
 steps_with from letter s = if s.keeps then s.steps ++ record { from = from; letter = letter } ∷ [] else s.steps
 
--- The number of the new step.
-abbrev pub number_of_new : Stand → ℕ
+-- The number of the next step to be appended, or 0 if the search keeps no steps.
+abbrev pub number_of_new : SearchState → ℕ
 number_of_new s = if s.keeps then length s.steps + 1 else 0
 
--- The middle states of a row that were not seen yet beside the pair at a place are found there.
-abbrev pub reached : ℕ → ℕ → ℕ → List Bool → Stand → Stand
+-- The search after the row `image` was found beside the pair at `place`, on `letter` after the step `from`. All its
+-- states count as seen there, and those that weren't seen before wait to be followed.
+abbrev pub reached : ℕ → ℕ → ℕ → List Bool → SearchState → SearchState
 reached from letter place image s =
     record s {
       seen = slice_set s.seen place (list_or (slice_index_or s.seen place []) image);
@@ -120,17 +133,20 @@ reached from letter place image s =
       queue = s.queue ++ record { step = number_of_new s; place = place; middle = list_and_not image (slice_index_or s.seen place []) } ∷ [];
     }
 
--- Nothing changes if all of them were seen, and otherwise the new ones are found.
-abbrev pub IsReached : ℕ → ℕ → ℕ → List Bool → Stand → Stand → Type 0
+-- Holds if `new` is `old` after the row `image` was found beside the pair at `place`, on `letter` after the step
+-- `from`. If all its states were seen there before, nothing has changed.
+abbrev pub IsReached : ℕ → ℕ → ℕ → List Bool → SearchState → SearchState → Type 0
 IsReached from letter place image old new =
     (IsSubset image (slice_index_or old.seen place []) × (new ≡ old)) ⊎ (HasOther image (slice_index_or old.seen place []) × (new ≡ reached from letter place image old))
 
--- The search before something was taken from its queue.
-abbrev pub behind : Found → Stand → Stand
+-- The search with `f` put back at the front of its queue.
+abbrev pub behind : Found → SearchState → SearchState
 behind f s = record s { queue = f ∷ s.queue }
 
--- What was found lies in the field, and some word leads to it. If steps are kept, it is the word of its step.
-pub record IsFound (d : Field) (s : Stand) (f : Found) : Type 0 where
+-- Holds if `f` is a row of middle states that some word reaches: the word leads the goal pair to the pair of `f`, and
+-- the middle state `from` to each state of the row. If the search keeps its steps, this word is the word of the step
+-- with the number `f.step`.
+pub record IsFound (d : Field) (s : SearchState) (f : Found) : Type 0 where
   pub place_in : f.place < length d.members
   pub step_in : f.step ≤ length s.steps
   pub wide : length f.middle ≡ d.states
@@ -139,18 +155,20 @@ pub record IsFound (d : Field) (s : Stand) (f : Found) : Type 0 where
   pub inner : (m : ℕ) → has_middle f m ≡ true → 1 ≤ paths d.next s.from m word
   pub kept : s.keeps ≡ true → word ≡ word_at s.steps f.step
 
--- A middle state beside the pair at a place waits in the queue.
-abbrev pub Waits : Stand → ℕ → ℕ → Type 0
+-- Holds if a row in the queue has the middle state `m` beside the pair at the place `i`.
+abbrev pub Waits : SearchState → ℕ → ℕ → Type 0
 Waits s i m = (f : Found) × Has f s.queue × (f.place ≡ i) × (has_middle f m ≡ true)
 
--- Whatever the pair and the middle state move to on a letter was seen, if the pair stays in the part.
-abbrev pub AreMovesSeen : Field → Stand → ℕ → ℕ → ℕ → Type 0
+-- Holds if, for the pair at the place `i`, the middle state `m` and the letter `l`: whenever the pair moves on `l` to a
+-- pair of the part, and `m` moves on `l` to a state, this state was seen beside that pair.
+abbrev pub AreMovesSeen : Field → SearchState → ℕ → ℕ → ℕ → Type 0
 AreMovesSeen d s l i m =
     (y k : ℕ) → Has y (d.pairs (slice_index d.members i) l) → is_member d.members d.places y ≡ true → Has k (d.next m l) → cell s.seen (slice_index d.places y) k ≡ true
 
--- A search is under way. Whatever was seen waits, or all that it moves to was seen. What is looked for was not seen, unless it
--- waits.
-pub record IsSearching (d : Field) (s : Stand) : Type 0 where
+-- The invariant of a search. Every row in the queue is reached by some word. Every middle state that was seen beside a
+-- pair waits in the queue, or the results of all its moves beside that pair were seen. If the goal, the middle state
+-- `to` beside the goal pair, was seen, it waits in the queue.
+pub record IsSearching (d : Field) (s : SearchState) : Type 0 where
   pub high : length s.seen ≡ length d.members
   pub wide : (i : ℕ) → i < length d.members → length (slice_index_or s.seen i []) ≡ d.states
   pub rooted : IsRooted s.steps
@@ -159,12 +177,14 @@ pub record IsSearching (d : Field) (s : Stand) : Type 0 where
   pub settled : (i m : ℕ) → cell s.seen i m ≡ true → Waits s i m ⊎ ((l : ℕ) → AreMovesSeen d s l i m)
   pub goal : cell s.seen s.place s.to ≡ true → Waits s s.place s.to
 
--- The work that is left: each state that was not seen is found at most once.
-abbrev pub work_of : Stand → ℕ
+-- An upper bound on the number of rows still to be followed: the number of middle states not seen yet, summed over all
+-- pairs, plus the length of the queue.
+abbrev pub work_of : SearchState → ℕ
 work_of s = total (λ row. total (λ b. one (not b)) row) s.seen + length s.queue
 
--- The search has come further while it follows what was found.
-pub record IsFurther (d : Field) (f : Found) (old new : Stand) : Type 0 where
+-- Holds if `new` is a later state than `old` of one search that is following the row `f`: what was seen is still seen,
+-- the work has not grown, and the invariant holds with `f` put back into the queue.
+pub record IsFurther (d : Field) (f : Found) (old new : SearchState) : Type 0 where
   pub keeps : new.keeps ≡ old.keeps
   pub place : new.place ≡ old.place
   pub from : new.from ≡ old.from
@@ -173,20 +193,21 @@ pub record IsFurther (d : Field) (f : Found) (old new : Stand) : Type 0 where
   pub grows : (i m : ℕ) → cell old.seen i m ≡ true → cell new.seen i m ≡ true
   pub work : work_of new ≤ work_of old
 
--- The row holds what the middle states that were found move to on a letter.
+-- Holds if `image` has exactly the states to which the middle states of `f` move on the letter `l`.
 pub record IsImage (d : Field) (f : Found) (l : ℕ) (image : List Bool) : Type 0 where
   pub wide : length image ≡ d.states
   pub moves : (k : ℕ) → (slice_index_or image k false ≡ true) ↔ ((m : ℕ) × (has_middle f m ≡ true) × Has k (d.next m l))
 
--- The middle states of a row were seen beside a pair, if the pair is in the part.
-abbrev pub IsMet : Field → List Bool → Stand → ℕ → Type 0
+-- Holds if all middle states of the row `image` were seen beside the pair `y`, or `y` isn't a pair of the part.
+abbrev pub IsMet : Field → List Bool → SearchState → ℕ → Type 0
 IsMet d image s y =
     is_member d.members d.places y ≡ true → (k : ℕ) → slice_index_or image k false ≡ true → cell s.seen (slice_index d.places y) k ≡ true
 
--- What was found was followed on a letter.
-abbrev pub IsFollowedOn : Field → Found → ℕ → Stand → Type 0
+-- Holds if the row `f` was followed on the letter `l`: whenever its pair moves on `l` to a pair of the part, and one of
+-- its middle states moves on `l` to a state, this state was seen beside that pair.
+abbrev pub IsFollowedOn : Field → Found → ℕ → SearchState → Type 0
 IsFollowedOn d f l s = (m : ℕ) → has_middle f m ≡ true → AreMovesSeen d s l f.place m
 
--- What was found was followed on the letters below `end`.
-abbrev pub IsFollowedUpTo : Field → Found → ℕ → Stand → Type 0
+-- Holds if the row `f` was followed on all letters below `end`.
+abbrev pub IsFollowedUpTo : Field → Found → ℕ → SearchState → Type 0
 IsFollowedUpTo d f end s = (l : ℕ) → l < end → IsFollowedOn d f l s

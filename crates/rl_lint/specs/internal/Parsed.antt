@@ -9,7 +9,8 @@ use Rattle.rl_lint.specs.Patterns.{IsRefusedPattern}
 use Rattle.rl_lint.specs.declared.pattern_argument.PatternArgument.{PatternArgument}
 use Rattle.rl_lint.specs.declared.pattern_argument.PatternArgument.TheVariants.{Refused, Parsed}
 
--- The result is right for these code points: the pattern that the reader of patterns finds, or the message on its refusal.
+-- The result is right for the code points `pattern`: it is the message on their refusal by the reader of patterns, or the
+-- pattern that they spell without flags, which is one of type `str`.
 abbrev pub IsArgument : List ℕ → PatternArgument → Type 0
 IsArgument pattern (Refused message) = IsRefusedPattern pattern (message_text message)
 IsArgument pattern (Parsed p) = IsParsed no_flags Str pattern (Ok p) × (universe_of p ≡ Str)

@@ -12,36 +12,38 @@ use Rattle.rl_report.specs.Names.{Text}
 use Rattle.rl_lint.specs.declared.files.FileRead.{FileRead}
 use Rattle.rl_lint.specs.declared.files.FileRead.TheVariants.{Unreadable, Refused, Taken}
 
--- The first `limit` bytes of the file at the path, or all of them if there are fewer.
+-- The first `limit` bytes of the file at the path in the map of the tree, or all of them if there are fewer. None if the map
+-- has no file there.
 abbrev pub bytes_up_to : ℕ → Text → List Node → Option Text
 bytes_up_to limit path nodes = option_map (take limit) (bytes_at nodes path)
 
--- The result of reading follows from the bytes: what they give, or that they are refused. Without bytes, the file is
--- unreadable.
+-- The result `found` of reading is right for the bytes: it is `Unreadable` if there are none (`None`). Otherwise it is a value
+-- that they give, as `Gives` defines it, or `Refused` if they give no value.
 abbrev pub IsGiven : {A : Type 0} → (Text → A → Type 0) → Option Text → FileRead A → Type 0
 IsGiven Gives None found = found ≡ Unreadable
 IsGiven Gives (Some bytes) Unreadable = ⊥
 IsGiven {A} Gives (Some bytes) Refused = (x : A) → ¬ Gives bytes x
 IsGiven Gives (Some bytes) (Taken x) = Gives bytes x
 
--- The file at the path was read with one call of the tree, and `found` is the result.
+-- Between the moments `old` and `new` the file at the path was read with one call of the tree, and `found` is the result.
+-- `there` gives the bytes of a path in the tree's map, and `Gives` says which values bytes give.
 pub record IsFileRead {A : Type 0} (Gives : Text → A → Type 0) (there : Text → List Node → Option Text) (path : Text) (old new : Moment) (found : FileRead A) : Type 0 where
   pub read : Option Text
   pub reads : ReadsFile there path read old new
   pub gives : IsGiven Gives read found
 
--- Settings that were read are valid, so that a report can be made with them.
+-- If settings were read, they are valid: the limit of live pairs is from 1 to 1,000, and the report version is 1 or 2.
 abbrev pub AreFit : FileRead Settings → Type 0
 AreFit Unreadable = ⊤
 AreFit Refused = ⊤
 AreFit (Taken s) = IsValid s
 
--- If a file is named, it is read, and `found` is the result. Otherwise the tree isn't asked, and the result is the default.
+-- If a file is named, it is read, and `found` is the result. Otherwise the tree isn't asked, and the result is `default`.
 abbrev pub IsNamedRead : {A : Type 0} → (Text → A → Type 0) → (Text → List Node → Option Text) → A → Option Text → Moment → Moment → FileRead A → Type 0
 IsNamedRead Gives there default None old new found = (new ≡ old) × (found ≡ Taken default)
 IsNamedRead Gives there default (Some path) old new found = IsFileRead Gives there path old new found
 
--- The bytes of a named baseline give these keys.
+-- The bytes of a named baseline give these keys. They never give no keys at all, which is the value for no baseline.
 abbrev pub GivesKeys : Text → Option (List EntryKey) → Type 0
 GivesKeys bytes None = ⊥
 GivesKeys bytes (Some keys) = IsBaseline bytes keys

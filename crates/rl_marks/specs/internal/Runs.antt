@@ -1,16 +1,18 @@
--- Runs. What two matchers found on a text, as the runs of their threads end: at the same place, with the same span held of each
--- group, and with the same group closed last.
+-- When two matchers have found the same on a text, if what they found is given as the ends of their walks. An end is a
+-- position at which the tree has ended, with what is known of the groups there (`caps`): in `held` the last span of each group
+-- that was closed, and in `last` the group that was closed last.
 use Rattle.std.specs.Prelude.{◌≡◌, ℕ, Option, None, Some}
-use Rattle.rl_marks.specs.internal.Caps.{held_span}
+use Rattle.rl_marks.specs.internal.Caps.{span_of_group}
 use Rattle.rl_marks.specs.internal.Walk.{Ended}
 
--- Two runs end alike: at the same place, with the same spans held and the same group closed last.
+-- Holds if both ends are at the same position, each group has the same last span in both or none in both, and the same group
+-- was closed last.
 pub record LikeEnds (x y : Ended) : Type 0 where
   pub same_place : x.place ≡ y.place
-  pub same_spans : (n : ℕ) → held_span n x.caps.held ≡ held_span n y.caps.held
+  pub same_spans : (n : ℕ) → span_of_group n x.caps.held ≡ span_of_group n y.caps.held
   pub same_last : x.caps.last ≡ y.caps.last
 
--- Both found nothing, or alike.
+-- Holds if both are `None`, or if both are ends that are the same by `LikeEnds`.
 abbrev pub LikeEnded : Option Ended → Option Ended → Type 0
 LikeEnded None None = Unit {0}
 LikeEnded (Some x) (Some y) = LikeEnds x y

@@ -1,4 +1,5 @@
--- For the contracts of private functions: the doubles that are reached in the product of a graph with itself.
+-- For the contracts of private functions: the doubles that are reached in the product of a graph with itself. In a
+-- graph with `n` states, the code of the double of `p` and `q` is `p * n + q`.
 use Rattle.std.specs.Prelude.{◌≡◌, ℕ, ◌*◌, ◌<◌, List}
 use Rattle.rl_graph.specs.Graph.{Graph, edges_of}
 use Rattle.rl_graph.specs.Paths.{Each}
@@ -8,7 +9,8 @@ use Rattle.rl_numbers.specs.declared.double.Double.{Double}
 use Rattle.rl_numbers.specs.Reached.{IsReach}
 use Rattle.rl_numbers.specs.internal.Diagonal.{doubles_in}
 
--- The list has exactly the doubles that are reached from the starts, each with the number of its part.
+-- Holds if the list has exactly the doubles that are reached in the product from the doubles with the codes `starts`,
+-- each once and with the number of its part in the product.
 pub record AreReachedDoubles (g : Graph) (starts : List ℕ) (l : List Double) : Type 0 where
   pub keys : List ℕ
   pub parts : PartTable

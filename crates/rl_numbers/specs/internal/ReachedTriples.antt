@@ -1,4 +1,6 @@
--- For the contracts of private functions: the triples that are reached from given ones.
+-- For the contracts of private functions: the triples that are reached in the product of three copies of a graph. In a
+-- graph with `n` states, the code of the triple of `p`, `q` and `r` is `(p * n + q) * n + r`. A part is a strongly
+-- connected component.
 use Rattle.std.specs.Prelude.{◌≡◌, ℕ, ◌*◌, ◌<◌, ◌≤◌, List, length}
 use Rattle.rl_graph.specs.Graph.{Graph, edges_of, IsWhole}
 use Rattle.rl_graph.specs.Parts.{PartTable, IsParts}
@@ -9,7 +11,9 @@ use Rattle.rl_numbers.specs.Triples.{triple_moves, among_moves}
 use Rattle.rl_numbers.specs.declared.triple.Triple.{Triple}
 use Rattle.rl_numbers.specs.declared.numbering.TheConstants.{MOST_TRIPLES}
 
--- The list has exactly the triples that the starts reach, numbered by the parts of the graph of these triples.
+-- Holds if the list has exactly the triples that are reached in the product from the triples with the codes `starts`,
+-- each once and at most 1,000,000. The number of a triple is the number of its part in the graph of these triples, in
+-- which each `(p, q, q)` also has a move to `(p, p, q)`.
 pub record AreReachedTriples (h : Graph) (starts : List ℕ) (l : List Triple) : Type 0 where
   pub keys : List ℕ
   pub parts : PartTable

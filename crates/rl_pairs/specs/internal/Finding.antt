@@ -1,6 +1,9 @@
--- For the contracts of private functions: the state of the search for live pairs. It goes breadth first from the first pair,
--- with the letters of each pair in increasing order and the end letter last. A pair is found by its key, which is its state
--- and the number of its set in the walk.
+-- For the contracts of private functions: the state of the search for live pairs. A pair is a state of the automaton with a
+-- set: the states that were tried before it. A rest is a list of letters followed by the end letter; a set refuses it if none
+-- of its members accepts it. A live pair is the first pair, or a pair whose set refuses some rest and to which a live pair has
+-- a move. The search goes breadth first from the first pair, with the letters of each pair in increasing order and the end
+-- letter last. It keeps the sets in a walk, which is a list of different sets, numbered from 0. A pair is found by its key,
+-- which is its state and the number of its set in the walk; the number of a pair is its index in the list of keys, from 0.
 use Rattle.std.specs.Prelude.{◌≡◌, ℕ, zero, suc, ◌-◌, ◌+◌, ◌*◌, ◌<◌, ◌≤◌, ◌⊎◌, nat_lt, if◌then◌else◌, List, [], ◌∷◌, ◌++◌, length, take, flat_map, slice_index_or}
 use Rattle.rl_prio.specs.Automaton.{Automaton, letters_count}
 use Rattle.rl_graph.specs.Paths.{Has, Each}
@@ -12,10 +15,10 @@ use Rattle.rl_pairs.specs.declared.finder.Key.{Key}
 use Rattle.rl_pairs.specs.declared.finder.Finder.{Finder}
 use Rattle.rl_pairs.specs.LivePairs.{pairs_from, next_pairs, LivePair}
 use Rattle.rl_pairs.specs.PairGraph.{KeptLive, AreFirstSeen, seen_after}
-use Rattle.rl_pairs.specs.internal.Counting.{IsCounting, IsNumberOf, Stands, IsOnward, IsClosed}
+use Rattle.rl_pairs.specs.internal.Counting.{IsCounting, IsNumberOf, HasNumber, IsOnward, IsClosed}
 
--- The keys of the pairs found, the greatest number of pairs allowed, a lead and a rest for each pair, and a row of targets
--- for each pair and letter that was looked at.
+-- The state of the search: the greatest number of pairs allowed, the keys of the pairs found, a lead and a rest for each of
+-- them, and a row of targets for each pair and letter that was looked at, pair by pair and letter by letter.
 pub record Found : Type 0 where
   pub limit : ℕ
   pub keys : List Key
@@ -23,35 +26,36 @@ pub record Found : Type 0 where
   pub rests : List (List ℕ)
   pub rows : List (List ℕ)
 
--- The lists of the search that the program holds.
+-- The state of the search that the program's value represents.
 abbrev pub found_of : Finder → Found
 found_of f = record { limit = f.limit; keys = f.keys.keys; leads = f.leads.items; rests = f.rests.items; rows = f.rows }
 
--- The search with one more row.
+-- The state of the search with one more row at the end.
 abbrev pub with_row : Found → List ℕ → Found
 with_row f row = record { limit = f.limit; keys = f.keys; leads = f.leads; rests = f.rests; rows = f.rows ++ row ∷ [] }
 
--- The key of the first pair. The empty set is the first set of the walk.
+-- The key of the first pair: the start state 0, and 0 as the number of the empty set, which is the first set of the walk.
 abbrev pub first_key : Key
 first_key = record { state = 0; set = 0 }
 
--- The key of the pair with the number `k`.
+-- The key of the pair with the number `k`, or the key of the first pair if there is none.
 abbrev pub key_at : Found → ℕ → Key
 key_at f k = slice_index_or f.keys k first_key
 
--- The pair that a key describes.
+-- The pair that a key describes: the state of the key, with the set that has the key's number in the walk. The set is empty if
+-- the walk has no such number.
 abbrev pub pair_of : Walk → Key → Pair
 pair_of w key = record { state = key.state; set = set_at w key.set }
 
--- The pair with the number `k`.
+-- The pair with the number `k`, or the pair of `first_key` if there is none.
 abbrev pub pair_at : Walk → Found → ℕ → Pair
 pair_at w f k = pair_of w (key_at f k)
 
--- The lead of the pair with the number `k`, that is, a word that leads to it.
+-- The lead of the pair with the number `k`, that is, a word that leads to it. It is empty if there is no such pair.
 abbrev pub lead_at : Found → ℕ → List ℕ
 lead_at f k = slice_index_or f.leads k []
 
--- The rest of the pair with the number `k`, that is, a rest that its set refuses.
+-- The rest of the pair with the number `k`, that is, a rest that its set refuses. It is empty if there is no such pair.
 abbrev pub rest_at : Found → ℕ → List ℕ
 rest_at f k = slice_index_or f.rests k []
 
@@ -59,24 +63,26 @@ rest_at f k = slice_index_or f.rests k []
 abbrev pub width : Automaton → ℕ
 width a = suc (letters_count a)
 
--- The targets of the moves of the pair `q` on a letter, if each pair has `wide` rows.
+-- The targets of the moves of the pair with the number `q` on a letter, if each pair has `wide` rows, one for each letter and
+-- the end letter. There are none if there is no such row.
 abbrev pub next_in : ℕ → List (List ℕ) → ℕ → ℕ → List ℕ
 next_in wide rows q letter = if nat_lt letter wide then slice_index_or rows (q * wide + letter) [] else []
 
--- The targets of the moves of a pair on a letter.
+-- The targets of the moves of a pair on a letter, as the rows of the search give them. There are none if there is no such row.
 abbrev pub next_of : Automaton → Found → ℕ → ℕ → List ℕ
 next_of a f = next_in (width a) f.rows
 
--- All targets, in the order in which they were met.
+-- The numbers in all rows, one row after another.
 abbrev pub flat : List (List ℕ) → List ℕ
 flat rows = flat_map (λ row. row) rows
 
--- The lead of the pair is the lead of an earlier pair that has a move to it, followed by the letter of that move.
+-- The lead of the pair with the number `k` is the lead of a pair with a smaller number that has a move to it, followed by the
+-- letter of that move.
 abbrev pub IsLed : Automaton → Found → ℕ → Type 0
 IsLed a f k = (i : ℕ) × (letter : ℕ) × (i < k) × Has k (next_of a f i letter) × (lead_at f k ≡ lead_at f i ++ letter ∷ [])
 
--- The invariant of the pairs found: they are different live pairs, numbered in the order in which they were first seen, each
--- with a word that leads to it and a rest that its set refuses.
+-- The invariant of the pairs found: they are different live pairs, at least one and at most `limit`, numbered in the order in
+-- which they were first seen. Each has a word that leads to it and a rest that its set refuses.
 pub record IsFound (a : Automaton) (w : Walk) (f : Found) : Type 0 where
   pub some : 0 < length f.keys
   pub few : length f.keys ≤ f.limit
@@ -94,35 +100,39 @@ pub record IsFound (a : Automaton) (w : Walk) (f : Found) : Type 0 where
   pub seen : AreFirstSeen 1 (flat f.rows)
   pub count : seen_after 1 (flat f.rows) ≡ length f.keys
 
--- The pairs found before keep their numbers.
+-- The pairs found before keep their numbers, and the limit is the same.
 pub record Stays (old new : Found) : Type 0 where
   pub limit : new.limit ≡ old.limit
   pub longer : length old.keys ≤ length new.keys
   pub same : (k : ℕ) → k < length old.keys → key_at new k ≡ key_at old k
 
--- The row has the numbers of the live ones among the pairs, in order, and the walk has the sets of all these pairs.
+-- The row has the numbers of those of the pairs whose sets are live, in order, and the walk has the sets of all these pairs.
 pub record IsRowOf (a : Automaton) (w : Walk) (f : Found) (pairs : List Pair) (row : List ℕ) : Type 0 where
   pub kept : KeptLive a (pair_at w f) pairs row
-  pub standing : Each (λ p. Stands w p.set) pairs
+  pub standing : Each (λ p. HasNumber w p.set) pairs
 
--- There are `count` rows, which hold the moves of the first pairs. Each pair was found before its moves were looked at.
+-- There are `count` rows. They are the moves of the first pairs, pair by pair and letter by letter, with the end letter last,
+-- and each of these pairs was found before its moves were looked at.
 pub record IsMoved (a : Automaton) (w : Walk) (f : Found) (count : ℕ) : Type 0 where
   pub long : length f.rows ≡ count
   pub moves : (q letter : ℕ) → letter ≤ letters_count a → q * width a + letter < count → IsRowOf a w f (next_pairs a (pair_at w f q) letter) (next_of a f q letter)
   pub order : (q : ℕ) → q * width a < count → q < seen_after 1 (flat (take (q * width a) f.rows))
 
--- The set for the next move after moves to the given states, if `set` is the set for the first of these moves.
+-- The set joined with the given states, one after another: the set for the move that follows the moves to these states, if
+-- `set` is the set for the first of these moves.
 abbrev pub tried : Automaton → List ℕ → List ℕ → List ℕ
 tried a set [] = set
 tried a set (target ∷ targets) = tried a (joined a target set) targets
 
--- The set for the move `k`, given the set for the move before it. The set for the first move is the image itself.
+-- The set for the move with the index `k` in `targets`, from 0, given the set for the move before it. The set for the first
+-- move is `set` itself.
 abbrev pub set_for : Automaton → List ℕ → ℕ → List ℕ → List ℕ
 set_for a targets zero set = set
 set_for a targets (suc k) set = joined a (slice_index_or targets k 0) set
 
--- The state of the search while the moves of a pair on a letter are looked at: the first `k` moves to the given states have
--- been handled, `first` is the set for the first of them, and `set` is the number of the set for the last one.
+-- The state of the search while the moves of a pair on a letter to `targets` are looked at: `f` is the state before the first
+-- of these moves, and `g` the state after the first `k`. `row` has the numbers of the live pairs among theirs. `first` is the
+-- set for the first move, and `set` the number of the set for the last one, or for the first if `k` is 0.
 pub record IsTrying (a : Automaton) (old w : Walk) (f g : Found) (first targets row : List ℕ) (k set : ℕ) : Type 0 where
   pub onward : IsOnward a old w
   pub found : IsFound a w (with_row g row)
@@ -131,7 +141,7 @@ pub record IsTrying (a : Automaton) (old w : Walk) (f g : Found) (first targets 
   pub row_of : IsRowOf a w g (pairs_from a first (take k targets)) row
   pub number : IsNumberOf w (tried a first (take (k - 1) targets)) set
 
--- The search has gone on, and `count` rows are made.
+-- The search has gone on from the state `f` to the state `g`, and its walk from `old` to `w`. `g` has `count` rows of moves.
 pub record IsFurther (a : Automaton) (old w : Walk) (f g : Found) (count : ℕ) : Type 0 where
   pub onward : IsOnward a old w
   pub found : IsFound a w g
@@ -146,7 +156,7 @@ pub record IsWhole (a : Automaton) (w : Walk) (f : Found) (max_pairs : ℕ) : Ty
   pub moved : IsMoved a w f (length f.keys * width a)
   pub limit : f.limit ≡ max_pairs
 
--- If the pair is live, its number was appended to the row; otherwise the row is unchanged.
+-- If the set of the pair is live, the row `new` is `old` with the pair's number at the end; otherwise the row is unchanged.
 abbrev pub IsNoted : Automaton → Walk → Found → Pair → List ℕ → List ℕ → Type 0
 IsNoted a w f p old new =
     ((IsLive a p.set → ⊥) × (new ≡ old)) ⊎ ((k : ℕ) × IsLive a p.set × (k < length f.keys) × (pair_at w f k ≡ p) × (new ≡ old ++ k ∷ []))

@@ -1,4 +1,5 @@
--- For private contracts: the judgement on a whole pattern. It is refused, or it is left without its outer anchors.
+-- For private contracts: the judgement on a whole pattern. It is refused, or it is left without its outer anchors: the leading
+-- ones at its start and the trailing ones at its end. A fault is a feature that is refused, with its position.
 use Rattle.std.specs.Prelude.{◌≡◌, ℕ, Bool, Some, None, List, [], ◌∷◌}
 use Rattle.std.specs.List.{list_any}
 use Rattle.std.specs.Str.{bytes_eq}
@@ -11,38 +12,40 @@ use Rattle.rl_pattern.specs.internal.Views.{node_of}
 use Rattle.rl_pattern.specs.Tree as t
 use Rattle.rl_pattern.specs.Found as f
 
--- The name and position as the specification sees them.
+-- The group name and its position that contracts see in place of the program's value.
 abbrev pub called_of : Called → f.Called
 called_of c = record { place = c.place; name = c.name }
 
--- The pattern without outer anchors as the specification sees it.
+-- The pattern without outer anchors that contracts see in place of the program's value.
 abbrev pub left_of : Inner → f.Inner
 left_of i = record { body = node_of i.body; leading = i.leading; trail = i.trailing }
 
--- Whether the name is one of these.
+-- Whether the name `n` is one of the names in the list.
 abbrev pub is_among : List ℕ → List f.Called → Bool
 is_among n cs = list_any (λ c. bytes_eq n c.name) cs
 
--- The trailing anchor that two of them amount to: `\Z` if one of them is `\Z`.
+-- The trailing anchor that two of them amount to: `\Z` if one of them is `\Z`, `$` if one is `$` and none is `\Z`, and
+-- `no_trail` if both are.
 abbrev pub both_trails : f.Trail → f.Trail → f.Trail
 both_trails f.no_trail second = second
 both_trails first second = f.run_of first second
 
--- The items without their longest prefix of leading anchors.
+-- The items without their longest prefix of anchors that can be leading ones.
 abbrev pub without_leading : List t.SyntaxNode → List t.SyntaxNode
 without_leading ps = f.without_run f.is_leading ps
 
--- The items, in reverse order, without their longest prefix of trailing anchors.
+-- The items, which are in reverse order, without their longest prefix of trailing anchors.
 abbrev pub without_trailing : List t.SyntaxNode → List t.SyntaxNode
-without_trailing ps = f.without_run (λ p. f.drops (f.trail_of p)) ps
+without_trailing ps = f.without_run (λ p. f.is_some_trail (f.trail_of p)) ps
 
--- The trailing anchor that the first of these items is, if it is one.
+-- The trailing anchor that the first of these items is, or `no_trail` if it is none or there are no items.
 abbrev pub trail_at : List t.SyntaxNode → f.Trail
 trail_at [] = f.no_trail
 trail_at (p ∷ ps) = f.trail_of p
 
--- The judgement is right: the pattern is refused because of its first fault, or it has none and its outer anchors are
--- removed.
+-- Holds if the judgement on the whole pattern `p` is right: the pattern is refused because of the fault that is reported, or
+-- nothing is refused and its outer anchors are removed. `call` has the flags of the call, and `text` says whether the pattern
+-- is a `str`.
 abbrev pub IsJudged : Flags → Bool → t.Whole → Judged → Type 0
 IsJudged call text p (Refused fault) = f.refused call text p ≡ Some fault
 IsJudged call text p (Left i) = (f.refused call text p ≡ None) × (left_of i ≡ f.inner p)

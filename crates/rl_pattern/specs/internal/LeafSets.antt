@@ -1,4 +1,6 @@
--- For private contracts: the parts of what a leaf matches, over a universe.
+-- For private contracts: the parts of what a leaf matches, over a universe, as functions of the universe and the flags. A leaf
+-- is a `.`, a character, an escape, a reference or a class. A named class is an escape such as `\d`. The code is the last
+-- argument.
 use Rattle.std.specs.Prelude.{ℕ, Bool, List}
 use Rattle.std.specs.List.{list_any}
 use Rattle.rl_ranges.specs.declared.universe.Universe.{Universe}
@@ -7,11 +9,11 @@ use Rattle.rl_pattern.specs.Tree.{Named, Escaped, Member}
 use Rattle.rl_pattern.specs.Codes.{no_flags}
 use Rattle.rl_pattern.specs.Shape.{within, closing, kind_holds, escaped_holds, code_member, kind_member, members_hold}
 
--- The set, closed under case if the flags say IGNORECASE.
+-- Whether the code is in the set, or, under IGNORECASE, in the set closed under case.
 abbrev pub closing_in : Universe → Flags → (ℕ → Bool) → ℕ → Bool
 closing_in u f = closing u f
 
--- Whether a named class, or its complement if the flag is `true`, holds the code.
+-- Whether a named class holds the code, or its complement in the universe if the flag is `true`.
 unfoldable pub kind_in : Universe → Flags → Named → Bool → ℕ → Bool
 kind_in u f = kind_holds u f
 
@@ -19,7 +21,7 @@ kind_in u f = kind_holds u f
 unfoldable pub escaped_in : Universe → Flags → Escaped → ℕ → Bool
 escaped_in u f e = within u (escaped_holds u f e)
 
--- Whether some member holds the code, by the given test.
+-- Whether `holds` is `true` for some member of the list and the code `c`.
 abbrev pub some_member : (Member → ℕ → Bool) → List Member → ℕ → Bool
 some_member holds ms c = list_any (λ m. holds m c) ms
 

@@ -11,13 +11,14 @@ is_open c = is_digit c || is_in "*+?{}," c
 unfoldable pub goes_on : ℕ → Bool
 goes_on c = is_digit c || is_in "+?}," c
 
--- The two codes may become neighbors: the second doesn't continue what ends with the first.
+-- Holds if the code `d` may follow `c` once the codes between them are removed: it doesn't continue what ends with `c`, and it
+-- isn't a `?` after a `(`.
 pub record MayMeet (c d : ℕ) : Type 0 where
   pub apart : is_open c ≡ true → goes_on d ≡ false
   pub no_head : c ≡ code_of "(" → d ≢ code_of "?"
 
--- The codes `v` are those of `w` whose positions are kept. The function `g` maps each position of `w` to the number of kept
--- codes before it. The codes that become neighbors may be neighbors.
+-- Holds if the codes `v` are the codes of `w` whose positions are kept, `g` maps each position of `w` to the number of kept
+-- codes before it, and codes that become neighbors may be neighbors (`MayMeet`).
 pub record Thinned (w v : List ℕ) (kept : ℕ → Bool) (g : ℕ → ℕ) : Type 0 where
   pub first : g 0 ≡ 0
   pub one_more : (i : ℕ) → kept i ≡ true → g (suc i) ≡ suc (g i)

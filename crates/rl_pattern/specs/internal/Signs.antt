@@ -1,4 +1,5 @@
--- For private contracts: the characters that belong to the classes of `Codes.antt`.
+-- For private contracts: the characters that belong to the classes of `Codes.antt`: those of a code between items, and those
+-- of a code after `(?`.
 use Rattle.std.specs.Prelude.{◌≡◌, ℕ, true, nat_le, if◌then◌else◌}
 use Rattle.rl_pattern.specs.declared.lex.TokenClass.{TokenClass}
 use Rattle.rl_pattern.specs.declared.lex.TokenClass.TheVariants.{Left as left, Right as right, Bar as bar, Brace as brace, Slash as slash, Dot as dot, Bracket as bracket, Times as times, Edge as edge, Blank as blank, Sharp as sharp, Plain as plain}
@@ -7,7 +8,7 @@ use Rattle.rl_pattern.specs.declared.lex.GroupPrefix.TheVariants.{Letter as lett
 use Rattle.rl_pattern.specs.Tree.{Escaped, code, too_large}
 use Rattle.rl_pattern.specs.Codes.{code_of, on_letter}
 
--- The code is the single character that the class represents. Classes of several characters say nothing.
+-- Holds if the code is the single character that the class represents. For classes of several characters it always holds.
 abbrev pub SignIs : TokenClass → ℕ → Type 0
 SignIs left c = c ≡ code_of "("
 SignIs right c = c ≡ code_of ")"
@@ -22,7 +23,7 @@ SignIs (edge m) c = Unit {0}
 SignIs blank c = Unit {0}
 SignIs plain c = Unit {0}
 
--- The code is a character that this class after `(?` represents. `looks` and `no_head` say nothing.
+-- Holds if the code is a character that this class after `(?` represents. For `looks` and `no_head` it always holds.
 abbrev pub HeadIs : GroupPrefix → ℕ → Type 0
 HeadIs letter c = on_letter c ≡ true
 HeadIs colon c = c ≡ code_of ":"

@@ -1,4 +1,6 @@
--- For private contracts: how the grammar and the machine see the program's values.
+-- For private contracts: how the grammar and the machine see the program's values. The machine is the reader as the logic
+-- describes it. The value that contracts see in place of a program's value has the same parts; a node in a box becomes that
+-- node.
 use Rattle.std.specs.Prelude.{◌≡◌, ℕ, suc, ◌+◌, List, map, reverse, length, Option, Some, None, if◌then◌else◌, ◌-◌}
 use Rattle.rl_pattern.specs.declared.tree.SyntaxNode.{SyntaxNode}
 use Rattle.rl_pattern.specs.declared.tree.SyntaxNode.TheOpen as Open
@@ -18,7 +20,7 @@ use Rattle.rl_pattern.specs.Codes.{code_of, is, with_digit, least_of, upper_of, 
 use Rattle.rl_pattern.specs.Tree as t
 use Rattle.rl_pattern.specs.internal.Machine as m
 
--- The node of the program's value, given the nodes of its parts.
+-- The node that contracts see in place of the program's value, if they see the given nodes and branches in place of its parts.
 abbrev pub node_layer : Open.SyntaxNode-F t.SyntaxNode t.Branch → t.SyntaxNode
 node_layer (Open.SyntaxNode-F.Leaf s f x) = t.leaf s f x
 node_layer (Open.SyntaxNode-F.Assertion s f k) = t.mark s f k
@@ -28,7 +30,7 @@ node_layer (Open.SyntaxNode-F.Nothing s) = t.nothing s
 node_layer (Open.SyntaxNode-F.Seq s ps) = t.seq s (t.nodes ps)
 node_layer (Open.SyntaxNode-F.Choice s bs) = t.choice s (t.branches bs)
 
--- The branch of the program's value, given its body.
+-- The branch that contracts see in place of the program's value, if they see the given node in place of its body.
 abbrev pub branch_layer : Open.Branch-F t.SyntaxNode t.Branch → t.Branch
 branch_layer b = record { place = b.place; body = b.body }
 
@@ -75,12 +77,14 @@ lex_of (InClass a v s) = m.in_class a v s
 abbrev pub state_of : State → m.State
 state_of s = record { base = base_of s.base; lex = lex_of s.lex }
 
--- The machine's next state, if it can continue: what was read, and what the program is in the middle of then.
+-- The machine's state with the base `b`, which is what has been read, and the reader's `Lex`, which is what it is in the
+-- middle of, as the machine sees it. It is `None` if the reader can't continue (`None`).
 abbrev pub state_with : m.Base → Option Lex → Option m.State
 state_with b None = None
 state_with b (Some x) = Some (m.at b (lex_of x))
 
--- If the reader is after a brace, the text of the brace ends at position `i`.
+-- Holds if the machine isn't in braces, or if the digits and commas that it has read after the brace end directly before
+-- position `i`.
 abbrev pub FitsAt : m.Lex → ℕ → Type 0
 FitsAt (m.in_braces a t) i = i ≡ suc a + length t
 FitsAt m.between i = Unit {0}
@@ -93,13 +97,14 @@ FitsAt (m.in_head a h) i = Unit {0}
 FitsAt (m.set_open a) i = Unit {0}
 FitsAt (m.in_class a v s) i = Unit {0}
 
--- The count that results if the part is followed by the given codes.
+-- The count that results if the part of a count that was read is followed by the given digits and commas, or `None` if they
+-- make it no count.
 abbrev pub part_rest : CountPart → List ℕ → Option t.Count
 part_rest (Least m) cs = least_of m cs
 part_rest (Upper m) cs = upper_of m cs
 part_rest (Most m n) cs = most_of m n cs
 
--- The part of a count with one more code, or `None` if the code can't continue it.
+-- The part of a count that results if `c`, a digit or a comma, follows, or `None` if it can't continue the count.
 abbrev pub part_next : CountPart → ℕ → Option CountPart
 part_next (Least m) c = if is "," c then Some (Upper m) else Some (Least (with_digit 10 m (c - code_of "0")))
 part_next (Upper m) c = if is "," c then None else Some (Most m (with_digit 10 0 (c - code_of "0")))

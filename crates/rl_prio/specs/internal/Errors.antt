@@ -4,7 +4,8 @@ use Rattle.rl_prio.specs.declared.build.attempts.ListError.TheVariants.{TooLong,
 use Rattle.rl_prio.specs.declared.error.PrioError.{PrioError}
 use Rattle.rl_prio.specs.declared.error.PrioError.TheVariants.{Moves, OutOfMemory as NoMemory}
 
--- The error of the automaton for an error of its lists.
+-- The error of building an automaton if one of its attempt lists, which say what a matcher tries next, can't be made for this
+-- reason: `Moves` if it is too long, and `OutOfMemory` if memory runs out.
 abbrev pub list_error : ListError → PrioError
 list_error TooLong = Moves
 list_error OutOfMemory = NoMemory

@@ -9,11 +9,11 @@ use rl_lists::{Items, OutOfMemory};
 use rl_syntax::MOST_MOVES;
 use std::alloc::{AllocFailed, Global};
 
-/// The reason why a list isn't made.
+/// The reason why a list of attempts isn't made.
 pub(crate) enum ListError {
     /// The list would have more than [`MOST_MOVES`] items.
     TooLong,
-    /// Out of memory.
+    /// There was not enough memory.
     OutOfMemory,
 }
 
@@ -76,7 +76,7 @@ impl Attempt {
         matches!(self, Attempt::Test(_, _))
     }
 
-    /// Returns the attempt with more guards in front.
+    /// Returns the attempt with `guards` added to its own.
     pub(crate) fn behind(self, guards: Guards) -> Attempt
         ensures { result ≡ behind guards self }
     {
@@ -101,7 +101,7 @@ fn are_tests(attempts: &[Attempt]) -> bool
     attempts.iter().all(|attempt| attempt.is_test())
 }
 
-/// Whether replacing the ends leaves the list as it is: it is short enough and has no end.
+/// Whether the list is known to stay as it is if its ends are replaced: it has at most [`MOST_MOVES`] attempts and no end.
 fn stays(attempts: &[Attempt]) -> bool
     ensures same { result ≡ true → (further : List Attempt) → ends_replaced attempts.now further ≡ attempts.now }
     ensures short { result ≡ true → length attempts.now ≤ MOST_MOVES }
@@ -109,7 +109,7 @@ fn stays(attempts: &[Attempt]) -> bool
     attempts.len() <= MOST_MOVES && are_tests(attempts)
 }
 
-/// Creates an empty list with capacity for `count` attempts, but for at most [`MOST_MOVES`].
+/// Creates an empty list with capacity for `count` attempts, or for [`MOST_MOVES`] if that is less.
 ///
 /// # Errors
 /// [`OutOfMemory`] if there is not enough memory for it.
@@ -149,11 +149,11 @@ fn put(list: &mut AttemptList, attempt: Attempt) -> Result<(), ListError>
     Ok(())
 }
 
-/// Appends the attempts in `further`, each with `guards` in front.
+/// Appends the attempts in `further`, each with `guards` added to its own.
 ///
 /// # Errors
 /// [`ListError::TooLong`] if there would be more than [`MOST_MOVES`] attempts; [`ListError::OutOfMemory`] if there is not
-/// enough memory for them.
+/// enough memory for them. Some may have been appended then.
 pub(crate) fn put_behind(
     list: &mut AttemptList,
     guards: Guards,
@@ -170,11 +170,11 @@ pub(crate) fn put_behind(
     Ok(())
 }
 
-/// Appends an attempt. If it is an end, it is replaced by the attempts in `further`.
+/// Appends an attempt if it is a test. An end is replaced by the attempts in `further`, each with the guards of the end added.
 ///
 /// # Errors
 /// [`ListError::TooLong`] if there would be more than [`MOST_MOVES`] attempts; [`ListError::OutOfMemory`] if there is not
-/// enough memory for them.
+/// enough memory for them. Some may have been appended then.
 fn put_onward(
     list: &mut AttemptList,
     attempt: Attempt,

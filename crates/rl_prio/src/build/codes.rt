@@ -27,7 +27,7 @@ pub(crate) fn samples(alloc: Global, letters: &Letters) -> Result<Vec<u32>, OutO
     Ok(codes)
 }
 
-/// Returns the kind of each code.
+/// Returns the number of the kind of each code, in order.
 ///
 /// # Errors
 /// [`OutOfMemory`] if there is not enough memory for them.
@@ -71,10 +71,10 @@ fn put(lists: &mut Vec<Items<bool>>, list: Items<bool>) -> Result<(), OutOfMemor
     Ok(())
 }
 
-/// Adds, for each set of a tree from left to right, whether it holds each code.
+/// Appends, for each set of a tree from left to right, the list of whether it holds each code.
 ///
 /// # Errors
-/// [`OutOfMemory`] if there is not enough memory for the answers.
+/// [`OutOfMemory`] if there is not enough memory for the lists. Some may have been appended then.
 pub(crate) fn add_members(
     alloc: Global,
     tree: &Re,

@@ -10,7 +10,8 @@ use rl_ranges::{CodeSet, Named, Universe};
 use rl_syntax::Guard;
 use std::alloc::Global;
 
-/// A set of guards, as a flag for each guard.
+/// A set of guards, as a flag for each guard: `true` if the set holds it. `word` and `not_word` are the word boundaries `\b`
+/// and `\B` by Unicode, `ascii_word` and `not_ascii_word` those by ASCII.
 #[derive(Clone, Copy)]
 pub(crate) struct Guards {
     start: bool,
@@ -23,20 +24,25 @@ pub(crate) struct Guards {
     not_ascii_word: bool,
 }
 
-/// What is known of the code on one side of a position in a text: whether there is one, whether it is a line feed, and
-/// whether it is a word character.
+/// What is known of the code on one side of a position in a text.
 #[derive(Clone, Copy)]
 pub(crate) struct Shown {
+    /// Whether there is a code.
     is_code: bool,
+    /// Whether it is a line feed.
     line_feed: bool,
+    /// Whether it is a word character by Unicode.
     word: bool,
+    /// Whether it is a word character by ASCII.
     ascii_word: bool,
 }
 
-/// The word characters: all of them, and the ASCII ones.
+/// The word characters.
 #[derive(Drop)]
 pub(crate) struct Words {
+    /// All of them, by Unicode.
     all: CodeSet,
+    /// Only the ASCII ones.
     ascii: CodeSet,
 }
 
@@ -159,7 +165,7 @@ impl Words {
         Ok(Words { all, ascii })
     }
 
-    /// Returns what a code shows.
+    /// Returns what a code shows. `self` must be made by [`Words::new`].
     #[tactic(auto, unfolding(crate::specs::internal::GuardSets::shown))]
     pub(crate) fn shown(&self, code: u32) -> Shown
         requires all { (c : ℕ) → has self.now.all c ≡ is_word false c }

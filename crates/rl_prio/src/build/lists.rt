@@ -14,7 +14,7 @@ use crate::build::guards::Guards;
 use rl_syntax::Re;
 use std::alloc::Global;
 
-/// Handles a tree that is a single set: adds the list of its place, and returns the list of entering it.
+/// Returns the list of entering a tree that is a single set, and adds the list of its place to `lists`.
 ///
 /// # Errors
 /// [`ListError::OutOfMemory`] if there is not enough memory for them.
@@ -93,7 +93,8 @@ fn in_turn(
     with_ends_replaced(alloc, list, further)
 }
 
-/// Returns the attempts of entering a repeated tree, and replaces each end in the lists from `from` on by them.
+/// Returns the attempts of entering a repeated tree, given those of entering its body. Replaces each end in the lists from
+/// `from` on, which belong to the places of the body, by them.
 ///
 /// # Errors
 /// [`ListError::TooLong`] only if a list would have more than [`MOST_MOVES`] attempts; [`ListError::OutOfMemory`] if there is

@@ -8,7 +8,7 @@ ghost use Rattle.rl_ranges.specs.Letters.{letter_at};
 ghost use Rattle.rl_ranges.specs.declared.letters.TheConstants.{MOST_LETTERS};
 ghost use Rattle.rl_prio.specs.internal.GuardSets.{shown};
 ghost use Rattle.rl_prio.specs.internal.Attempts.{width_of, AreEntered};
-ghost use Rattle.rl_prio.specs.internal.Plans.{plan_letters, plan_kinds, plan_places, plan_states, holds_at, test_goes, may_end, end_goes, target_of, move_of, moves_of, attempts_at, before_at, row_of, each_letter, rows_of_state, IsPlaced, IsSound, AreRows, IsPlan};
+ghost use Rattle.rl_prio.specs.internal.Plans.{plan_letters, plan_kinds, plan_place_states, plan_states, holds_at, test_goes, may_end, end_goes, target_of, move_of, moves_of, attempts_at, before_at, row_of, each_letter, rows_of_state, IsPlaced, IsSound, AreRows, IsPlan};
 
 use crate::build::attempts::{Attempt, AttemptList, ListError, are_unguarded};
 use crate::build::codes::{add_members, kinds_of, samples, shown_around};
@@ -20,25 +20,31 @@ use rl_ranges::Letters;
 use rl_syntax::{Ending, Re};
 use std::alloc::Global;
 
-/// The data from which the rows of an automaton are made: the attempts at the start, and those after each place has
-/// succeeded; for each place, whether its set holds each letter; the kind of each letter; what is shown before the start and
-/// by each kind; what is shown by each letter and the end letter; and where a match may end.
+/// The data from which the rows of an automaton are made. Places, letters and kinds are numbered from 0.
 #[derive(Drop)]
 pub(crate) struct Plan {
+    /// The attempts at the start.
     first: AttemptList,
+    /// For each place, the attempts after its test has succeeded.
     after: Vec<AttemptList>,
+    /// For each place, whether its set holds each letter.
     members: Vec<Items<bool>>,
+    /// For each letter, the number of its kind.
     kinds_of: Vec<u32>,
+    /// What is shown before the start, and then by each kind.
     before: Vec<Shown>,
+    /// What is shown by each letter, and then by the end letter.
     next: Vec<Shown>,
+    /// Where a match may end.
     ending: Ending,
 }
 
 impl Plan {
-    /// Makes the plan of a tree and an ending, over the given letters and kinds.
+    /// Makes the plan of a tree and an ending, over the given letters and kinds. The letters' sample codes must be less than
+    /// the number of codes of `kinds`.
     ///
     /// # Errors
-    /// [`ListError::TooLong`] if a list of items would have more than [`MOST_MOVES`] items; [`ListError::OutOfMemory`] if
+    /// [`ListError::TooLong`] only if a list of items would have more than [`MOST_MOVES`] items; [`ListError::OutOfMemory`] if
     /// there is not enough memory for the plan.
     pub(crate) fn new(
         alloc: Global,
@@ -92,7 +98,8 @@ impl Plan {
         })
     }
 
-    /// Returns the number of states.
+    /// Returns the number of states, including the start, the accepting state and the dead state. The parts of the plan must
+    /// fit together (`IsSound`).
     pub(crate) fn states(&self) -> usize
         requires { IsSound self.now }
         ensures value { result ≡ plan_states self.now }
@@ -111,16 +118,17 @@ impl Plan {
         self.before.len() - 1
     }
 
-    /// Returns the number of states of places.
+    /// Returns the number of states of places: one for each place and kind.
     fn place_states(&self) -> usize
         requires { IsSound self.now }
-        ensures value { result ≡ plan_places self.now }
+        ensures value { result ≡ plan_place_states self.now }
         ensures small { result ≤ MOST_NODES * MOST_LETTERS }
     {
         self.after.len() * self.kinds()
     }
 
-    /// Returns the attempts of a state.
+    /// Returns the attempts of a state: at the start, or after its place has succeeded. The accepting state and the dead state
+    /// have none.
     fn attempts(&self, state: usize) -> &[Attempt]
         requires { IsSound self.now }
         ensures value { result.now ≡ attempts_at self.now state }
@@ -136,7 +144,8 @@ impl Plan {
         }
     }
 
-    /// Returns what is shown before a state.
+    /// Returns what is shown before a state: for the start that there is no code, and for the state of a place what its kind
+    /// shows.
     fn shown_before(&self, state: usize) -> Shown
         requires { IsSound self.now }
         ensures { result ≡ before_at self.now state }
@@ -157,7 +166,8 @@ impl Plan {
         letter < self.kinds_of.len() && self.members[place].as_slice()[letter]
     }
 
-    /// Returns the target of the test of a place on a letter.
+    /// Returns the target of the test of a place on a letter: the state of the place and the letter's kind if the set of the
+    /// place holds the letter, and the dead state otherwise.
     fn test_target(&self, place: usize, letter: usize) -> u32
         requires sound { IsSound self.now }
         requires place_in { place < length self.now.after.items }
@@ -171,7 +181,7 @@ impl Plan {
         }
     }
 
-    /// Whether a match may end before a letter.
+    /// Whether a match may end before a letter or the end letter.
     fn may_end(&self, letter: usize) -> bool
         ensures { result ≡ may_end self.now.ending letter (plan_letters self.now) }
     {
@@ -181,7 +191,8 @@ impl Plan {
         }
     }
 
-    /// Returns the target of an end on a letter.
+    /// Returns the target of an end on a letter: the accepting state if a match may end before the letter, and the dead state
+    /// otherwise.
     fn end_target(&self, letter: usize) -> u32
         requires { IsSound self.now }
         ensures { result ≡ end_goes self.now letter }
@@ -193,7 +204,7 @@ impl Plan {
         }
     }
 
-    /// Returns the target of an attempt on a letter.
+    /// Returns the target of an attempt on a letter. Its guards aren't considered.
     fn target(&self, letter: usize, attempt: Attempt) -> u32
         requires sound { IsSound self.now }
         requires placed { IsPlaced (length self.now.after.items) attempt }
@@ -205,7 +216,8 @@ impl Plan {
         }
     }
 
-    /// Appends the move of an attempt on a letter to the open row if the guards of the attempt hold.
+    /// Appends the move of an attempt on a letter to the open row if the guards of the attempt are all in `held`, the set of
+    /// the guards that hold.
     ///
     /// # Errors
     /// [`OutOfMemory`] if there is not enough memory for it.
@@ -227,7 +239,7 @@ impl Plan {
         Ok(())
     }
 
-    /// Appends the moves of the attempts on a letter to the open row.
+    /// Appends the moves of the attempts on a letter to the open row, in order. `held` is the set of the guards that hold.
     ///
     /// # Errors
     /// [`OutOfMemory`] if there is not enough memory for them.
@@ -335,7 +347,8 @@ impl Plan {
         }
     }
 
-    /// Makes the rows, state by state and letter by letter, with the end letter last.
+    /// Makes the rows, state by state and letter by letter, with the end letter last. The parts of the plan must fit together
+    /// (`IsSound`).
     ///
     /// # Errors
     /// [`OutOfMemory`] if there is not enough memory for them.

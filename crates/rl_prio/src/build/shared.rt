@@ -20,7 +20,8 @@ use rl_syntax::{Ending, Re};
 use std::alloc::Global;
 use std::rc::Rc;
 
-/// Wraps letters so that several automata can share them.
+/// Wraps letters so that several automata can share them. The result is [`OutOfMemory`] if there is not enough memory for
+/// that.
 pub(crate) fn shared(alloc: Global, letters: Letters) -> Result<Rc<Letters>, OutOfMemory>
     ensures { IfOk result (λ shared. shared.value ≡ letters) }
 {
@@ -31,12 +32,15 @@ pub(crate) fn shared(alloc: Global, letters: Letters) -> Result<Rc<Letters>, Out
 impl Prio {
     ghost use Rattle.rl_prio.specs.StandsFor.{StandsOver};
 
-    /// Builds the automaton of a tree and an ending over the given letters. Codes of one letter must not be distinguished by
-    /// the sets of the tree or the sets that its guards name.
+    /// Builds the automaton of a tree and an ending over the given letters of the universe, of which there must be at most
+    /// [`MOST_LETTERS`](rl_ranges::MOST_LETTERS). Codes of one letter must not be distinguished by the sets of the tree, or by
+    /// those that its guards use. The tree must have at most [`MOST_NODES`](rl_syntax::MOST_NODES) nodes, and its sets and
+    /// those that its guards use must hold only codes of the universe.
     ///
     /// # Errors
-    /// [`PrioError::Moves`] if a list of items has more than [`MOST_MOVES`] items; [`PrioError::OutOfMemory`] if there is not
-    /// enough memory for the automaton.
+    /// [`PrioError::Moves`] only if a list of items has more than [`MOST_MOVES`](rl_syntax::MOST_MOVES) items: the list of
+    /// what a matcher tries on entering the tree or after one of its sets. There is always an error then.
+    /// [`PrioError::OutOfMemory`] if there is not enough memory for the automaton.
     pub(crate) fn over_letters(
         alloc: Global,
         tree: &Re,
@@ -64,12 +68,16 @@ impl Prio {
         Ok(Prio::from_parts(letters, states, rows))
     }
 
-    /// Builds the automaton of a tree and an ending over the letters of another automaton. Codes of one letter must not be
-    /// distinguished by the sets of the tree or the sets that its guards name.
+    /// Builds the automaton of a tree and an ending over the letters of the automaton `other`, so that both can read the same
+    /// word. `other` must be an automaton over the same universe with at most [`MOST_LETTERS`](rl_ranges::MOST_LETTERS)
+    /// letters. Codes of one of its letters must not be distinguished by the sets of the tree, or by those that its guards
+    /// use. The tree must have at most [`MOST_NODES`](rl_syntax::MOST_NODES) nodes, and its sets and those that its guards use
+    /// must hold only codes of the universe.
     ///
     /// # Errors
-    /// [`PrioError::Moves`] if a list of items has more than [`MOST_MOVES`] items; [`PrioError::OutOfMemory`] if there is not
-    /// enough memory for the automaton.
+    /// [`PrioError::Moves`] only if a list of items has more than [`MOST_MOVES`](rl_syntax::MOST_MOVES) items: the list of
+    /// what a matcher tries on entering the tree or after one of its sets. There is always an error then.
+    /// [`PrioError::OutOfMemory`] if there is not enough memory for the automaton.
     pub fn build_beside(
         alloc: Global,
         other: &Prio,

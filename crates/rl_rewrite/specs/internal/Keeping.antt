@@ -1,22 +1,26 @@
--- For the contracts of private functions: the places of what is left of a pattern that are kept if one more branch is
--- dropped.
+-- For the contracts of private functions: the places of what is left of a pattern that are kept if one more branch is dropped.
+-- The places of a part are the leaves, each of which matches one code, of the tree to which it is lowered, from left to right;
+-- a repeat is lowered to several copies of its body. `drop` selects the branches that are dropped already, and `gone` is the
+-- span of the branch to be dropped next.
 use Rattle.std.specs.Prelude.{ℕ, zero, suc, ◌+◌, ◌-◌, Bool, true, false, not, ◌&&◌, ◌||◌, ◌==◌, if◌then◌else◌, List, [], ◌∷◌, ◌++◌, Option, None, Some}
 use Rattle.rl_syntax.specs.declared.span.Span.{Span}
 use Rattle.rl_syntax.specs.PatTree.{PatTree, PatTrees, BranchTrees, nothing, class, seq, choice, repeat, group, anchor, boundary, outside, no_items, item, no_branches, branch}
 use Rattle.rl_pattern.specs.Suggested.{same_span, some_kept}
 
--- The number of copies of its body that a repeat is lowered to.
+-- The number of copies of its body to which a repeat is lowered: the greater of its two bounds, or one more than its lower
+-- bound if it has no upper bound.
 abbrev pub copies : ℕ → Option ℕ → ℕ
 copies least None = least + 1
 copies least (Some most) = least + (most - least)
 
--- The flags, repeated `n` times.
+-- The list `flags`, repeated `n` times. It is empty if `n` is 0.
 abbrev pub repeated : ℕ → List Bool → List Bool
 repeated zero flags = []
 repeated (suc n) flags = flags ++ repeated n flags
 
 module _ (drop : Span → Bool) where
-  -- Whether what is left of a part may span the empty text.
+  -- Whether what is left of a part without the dropped branches may span the empty text. Anchors, boundaries and features that
+  -- aren't judged (`outside`) count as spanning it, and so does a choice without branches.
   abbrev mutual
     pub spans_empty : PatTree → Bool
     spans_empty (nothing s) = true
@@ -29,18 +33,18 @@ module _ (drop : Span → Bool) where
     spans_empty (boundary s negated ascii) = true
     spans_empty (outside s what) = true
 
-    -- Whether all items may span the empty text.
+    -- Whether all items, without the dropped branches, may span the empty text.
     pub items_span_empty : PatTrees → Bool
     items_span_empty no_items = true
     items_span_empty (item p ps) = spans_empty p && items_span_empty ps
 
-    -- Whether one of the remaining branches may span the empty text.
+    -- Whether at least one of the branches isn't dropped and may span the empty text.
     pub branch_spans_empty : BranchTrees → Bool
     branch_spans_empty no_branches = false
     branch_spans_empty (branch s p bs) = (if drop s then false else spans_empty p) || branch_spans_empty bs
 
 module _ (drop : Span → Bool) (gone : Span) where
-  -- Whether a remaining branch with the span `gone` may span the empty text.
+  -- Whether the part has a branch with the span `gone`, outside all dropped branches, that may span the empty text.
   abbrev mutual
     pub loses_empty : PatTree → Bool
     loses_empty (nothing s) = false
@@ -53,18 +57,20 @@ module _ (drop : Span → Bool) (gone : Span) where
     loses_empty (boundary s negated ascii) = false
     loses_empty (outside s what) = false
 
-    -- Whether one of the items has a remaining branch with the span `gone` that may span the empty text.
+    -- Whether one of the items has a branch with the span `gone`, outside all dropped branches, that may span the empty text.
     pub items_lose_empty : PatTrees → Bool
     items_lose_empty no_items = false
     items_lose_empty (item p ps) = loses_empty p || items_lose_empty ps
 
-    -- Whether one of the branches, or a branch inside them, remains, has the span `gone` and may span the empty text.
+    -- Whether one of these branches, or of the branches inside them, has the span `gone`, is outside all dropped branches and
+    -- may span the empty text.
     pub branches_lose_empty : BranchTrees → Bool
     branches_lose_empty no_branches = false
     branches_lose_empty (branch s p bs) = (if drop s then false else if same_span gone s then spans_empty drop p else loses_empty p) || branches_lose_empty bs
 
-  -- For each place of what is left of a part, whether it is kept if the branches with the span `gone` are dropped too. The
-  -- first argument says whether the part itself is kept.
+  -- A flag for each place of what is left of a part without the dropped branches, which says whether the place is kept if the
+  -- branch with the span `gone` is dropped too. The first argument is false if the part is inside this branch; then all flags
+  -- are false.
   abbrev mutual
     pub flags_in : Bool → PatTree → List Bool
     flags_in keep (nothing s) = []
@@ -77,12 +83,12 @@ module _ (drop : Span → Bool) (gone : Span) where
     flags_in keep (boundary s negated ascii) = []
     flags_in keep (outside s what) = []
 
-    -- The flags of the items.
+    -- The flags of the places of a sequence of items, item by item.
     pub items_flags : Bool → PatTrees → List Bool
     items_flags keep no_items = []
     items_flags keep (item p ps) = flags_in keep p ++ items_flags keep ps
 
-    -- The flags of the remaining branches.
+    -- The flags of the places of the branches that aren't dropped, branch by branch.
     pub branches_flags : Bool → BranchTrees → List Bool
     branches_flags keep no_branches = []
     branches_flags keep (branch s p bs) = if drop s then branches_flags keep bs else flags_in (keep && not (same_span gone s)) p ++ branches_flags keep bs

@@ -1,38 +1,43 @@
 -- For the contracts of private functions: the meaning of the outcomes of trials, and what is known of the branches tried so
--- far.
+-- far. A trial of a branch compares the language of a body with and without the branch, up to a limit on set pairs, which are
+-- two sets of states to which the same word leads. Branches are identified by their spans.
 use Rattle.std.specs.Prelude.{◌≡◌, ℕ, true, List, []}
 use Rattle.rl_ranges.specs.declared.universe.Universe.{Universe}
 use Rattle.rl_syntax.specs.declared.span.Span.{Span}
 use Rattle.rl_syntax.specs.PatTree.{PatTree}
 use Rattle.rl_syntax.specs.SameSpans.{OneLanguage}
 use Rattle.rl_syntax.specs.Tree.{Tree}
-use Rattle.rl_pattern.specs.Suggested.{Verdict, equal, apart, passed_by, Tried, among, may_go, without}
+use Rattle.rl_pattern.specs.Suggested.{Verdict, equal, apart, undecided, Tried, among, may_go, without}
 use Rattle.rl_trim.specs.declared.judgement.Judgement.{Judgement}
 use Rattle.rl_trim.specs.declared.judgement.Judgement.TheVariants as judgement
 use Rattle.rl_rewrite.specs.declared.trial.Trial.{Trial}
 use Rattle.rl_rewrite.specs.declared.trial.Trial.TheVariants.{Equal, Apart, GaveUp}
 use Rattle.rl_rewrite.specs.Verdicts.{IsVerdict}
 
--- The verdict on two trees for the outcome of a trial.
+-- The verdict that has the same meaning as the outcome of a trial: `equal` for `Equal`, `apart` for `Apart`, and `undecided`
+-- for `GaveUp`, which means that the limit was exceeded.
 abbrev pub verdict_of : Trial → Verdict
 verdict_of Equal = equal
 verdict_of Apart = apart
-verdict_of GaveUp = passed_by
+verdict_of GaveUp = undecided
 
--- The outcome of a trial for a judgement on one automaton.
-abbrev pub trial_told : Judgement → Trial
-trial_told judgement.Equal = Equal
-trial_told judgement.Apart = Apart
-trial_told judgement.Passed = GaveUp
+-- The outcome of a trial that has the same meaning as a judgement, which is what a trial on only one automaton returns:
+-- `GaveUp` for `Passed`, since both mean that the limit was exceeded.
+abbrev pub trial_for : Judgement → Trial
+trial_for judgement.Equal = Equal
+trial_for judgement.Apart = Apart
+trial_for judgement.Passed = GaveUp
 
--- What the outcome of a trial says of the two languages: only `Equal` says something.
-abbrev pub IsTold : Universe → Tree → Tree → Trial → Type 0
-IsTold u s t Equal = OneLanguage u s t
-IsTold u s t Apart = Unit {0}
-IsTold u s t GaveUp = Unit {0}
+-- Holds if what the outcome of a trial says about the languages of the two trees is true. Only `Equal` says something: the
+-- languages are the same.
+abbrev pub IsTrueTrial : Universe → Tree → Tree → Trial → Type 0
+IsTrueTrial u s t Equal = OneLanguage u s t
+IsTrueTrial u s t Apart = Unit {0}
+IsTrueTrial u s t GaveUp = Unit {0}
 
--- The branches in the list `bs` were tried: those in `dropped` were dropped, and the trials of those in `passed` exceeded the
--- limit. The language of the body is unchanged.
+-- Holds if trying the branches in the list `bs`, from last to first, may have dropped the branches in `dropped` and exceeded
+-- the limit for those in `passed`, the rules allow the dropped branches to go, and the language of the body is the same
+-- without them.
 pub record AreTried (u : Universe) (limit : ℕ) (body : PatTree) (bs dropped passed : List Span) : Type 0 where
   pub tried : Tried (IsVerdict u limit) body bs dropped passed
   pub goes : may_go (among dropped) body ≡ true

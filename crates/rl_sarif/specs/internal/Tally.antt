@@ -9,10 +9,10 @@ abbrev pub one_if_same : EntryKey → EntryKey → ℕ
 one_if_same a b = if same_key a b then 1 else 0
 
 module _ {S : Type 0} where
-  -- How often the key can still be taken.
-  abbrev pub left : IndexMap Key ℕ S → EntryKey → ℕ
-  left tally key = unwrap_or (get_by (λ k. same_key key (key_in k)) tally) 0
+  -- How often the key can still be taken: 0 if the tally doesn't have it.
+  abbrev pub remaining : IndexMap Key ℕ S → EntryKey → ℕ
+  remaining tally key = unwrap_or (get_by (λ k. same_key key (key_in k)) tally) 0
 
-  -- Each key can still be taken as often as `counts` says.
-  abbrev pub Holds : IndexMap Key ℕ S → (EntryKey → ℕ) → Type 0
-  Holds tally counts = (q : Key) → left tally (key_in q) ≡ counts (key_in q)
+  -- For each value of the struct `Key`, the key can still be taken as often as `counts` says.
+  abbrev pub HasCounts : IndexMap Key ℕ S → (EntryKey → ℕ) → Type 0
+  HasCounts tally counts = (q : Key) → remaining tally (key_in q) ≡ counts (key_in q)

@@ -17,14 +17,15 @@ use rl_lanes::BitRow;
 use rl_lists::OutOfMemory;
 use rl_prio::Prio;
 
-/// The number of sets whose moves are kept once the moves of the automaton are split.
+/// The most sets whose moves are kept once the moves of the automaton are split.
 const RECENT: usize = 8;
 
-/// The moves of an automaton are split once this many members have been passed over, to find images, for each of its pairs of
-/// a state and a letter. Splitting them is about as much work.
+/// How long splitting the moves of an automaton is put off: until the number of members whose moves were looked at to find
+/// images is at least this many times the number of its pairs of a state and a letter, counting the end letter as a letter. By
+/// then, finding images has been about as much work as splitting the moves.
 const PATIENCE: usize = 4;
 
-/// Returns the index at which the number of the image of a set on a letter is kept.
+/// Returns the index in `images` of the number of the image of a set on a letter or the end letter.
 fn place_of(a: &Prio, set: u32, letter: u32) -> usize
     requires { letter ≤ letters_count a.now }
     ensures { result ≡ image_place a.now set letter }
@@ -34,7 +35,7 @@ fn place_of(a: &Prio, set: u32, letter: u32) -> usize
 }
 
 impl SetWalk {
-    /// Returns the number of the image of a set on a letter if it is already known.
+    /// Returns the number of the image of a set on a letter or the end letter, or `None` if it isn't known yet.
     pub(crate) fn known_image(&self, a: &Prio, set: u32, letter: u32) -> Option<u32>
         requires { letter ≤ letters_count a.now }
         ensures { result ≡ slice_index_or self.now.kept.images (image_place a.now set letter) None }
@@ -45,7 +46,7 @@ impl SetWalk {
         }
     }
 
-    /// Makes room for the numbers of the images of a set.
+    /// Makes `images` long enough for the numbers of the images of the given set on all letters and the end letter.
     fn make_room(&mut self, a: &Prio, set: u32) -> Result<(), OutOfMemory>
         requires made { IsMadeFor self.old a.now }
         requires set_in { set < length self.old.sets }
@@ -58,7 +59,8 @@ impl SetWalk {
         lengthen(&mut self.images, end, None)
     }
 
-    /// Records the number of the image of a set on a letter.
+    /// Records `number` as the number of the image of a set on a letter or the end letter. The list `images` must already have
+    /// room for it (see `make_room`).
     fn keep_image(&mut self, a: &Prio, set: u32, letter: u32, number: u32)
         requires made { IsMadeFor self.old a.now }
         requires set_in { set < length self.old.sets }
@@ -72,8 +74,8 @@ impl SetWalk {
         self.images[place_of(a, set, letter)] = Some(number);
     }
 
-    /// Finds the image of a set on a letter, records its number, and returns it. The function isn't inlined, so that `step`
-    /// stays small.
+    /// Finds the image of a set on a letter, appends it if it is new, records its number, and returns the number. The function
+    /// isn't inlined, so that `step` stays small.
     #[inline(never)]
     pub(crate) fn find_image(&mut self, a: &Prio, set: u32, letter: u32) -> Result<u32, SetsError>
         requires made { IsMadeFor self.old a.now }
@@ -87,9 +89,8 @@ impl SetWalk {
         Ok(number)
     }
 
-    /// Returns the number of the image of a set on a letter, which is appended if it is new. If the members move alike on this
-    /// letter and the one before, the number is that of the image on the letter before; otherwise the row of the image is
-    /// computed.
+    /// Returns the number of the image of a set on a letter or the end letter, but doesn't record it. The image is appended to
+    /// the walk if it is new. If `image_before` gives the number, this is used; otherwise the row of the image is computed.
     fn image_number(&mut self, a: &Prio, set: u32, letter: u32) -> Result<u32, SetsError>
         requires made { IsMadeFor self.old a.now }
         requires set_in { set < length self.old.sets }
@@ -104,8 +105,9 @@ impl SetWalk {
         self.add(row)
     }
 
-    /// Returns the number of the image of a set on the letter before if it is known and the members move alike on both
-    /// letters. Once the moves are split, computing the image is cheaper than comparing the moves.
+    /// Returns the number of the image of a set on the letter before `letter`, if it is known and the members have the same
+    /// moves on both letters; it is then the number of the image on `letter` too. Returns `None` otherwise. Also returns
+    /// `None` once the moves are split, as computing the image is cheaper then than comparing the moves.
     fn image_before(&self, a: &Prio, set: u32, letter: u32) -> Option<u32>
         requires made { IsMadeFor self.now a.now }
         requires set_in { set < length self.now.sets }
@@ -123,7 +125,7 @@ impl SetWalk {
         }
     }
 
-    /// Returns the row of the image of a set on a letter.
+    /// Returns the row of the image of a set on a letter. The image isn't added to the walk.
     fn image_row(&mut self, a: &Prio, set: u32, letter: u32) -> Result<BitRow, OutOfMemory>
         requires made { IsMadeFor self.old a.now }
         requires set_in { set < length self.old.sets }
@@ -140,12 +142,13 @@ impl SetWalk {
         let mut row = self.take_row(states)?;
         row.clear();
         self.mark_targets(a, set, letter, &mut row)?;
+        // The last state is the dead state, which no set holds.
         row.set(states - 1, false);
         Ok(row)
     }
 
-    /// Splits the moves of the automaton unless they are split, once passing over the members of sets has become about as
-    /// much work as splitting the moves.
+    /// Counts the members of a set, whose image is to be found, as work, and splits the moves of the automaton if the work has
+    /// become enough (see `PATIENCE`). Does nothing if they are already split.
     fn split_moves(&mut self, a: &Prio, set: u32) -> Result<(), OutOfMemory>
         requires made { IsMadeFor self.old a.now }
         requires set_in { set < length self.old.sets }
@@ -168,7 +171,9 @@ impl SetWalk {
         Ok(())
     }
 
-    /// Marks in an empty row the states to which the members of a set move on a letter.
+    /// Sets in an empty row the bits of the states to which some member of a set moves on a letter. The dead state's bit has
+    /// no meaning. Once the moves of the automaton are split, the moves of the set are kept in `recent`, which is emptied
+    /// first if it already has the moves of `RECENT` sets.
     fn mark_targets(
         &mut self,
         a: &Prio,

@@ -1,4 +1,5 @@
-//! What a walk knows of the rests that its sets refuse, and the search for them.
+//! What a walk records of the rests that its sets refuse: for each set what is known (`Life`), and the routes, each of which
+//! describes a rest. The walk also keeps a search, so that later ones can use its memory.
 
 ghost use Rattle.std.specs.Prelude.{◌≡◌, ℕ, ◌+◌, ◌<◌, ◌≤◌, [], ◌∷◌, ◌++◌, List, length, slice_index_or, IfOk, OnOk, OnErr};
 ghost use Rattle.rl_prio.specs.Automaton.{Automaton, letters_count};
@@ -16,7 +17,7 @@ use rl_lists::{OutOfMemory, Word};
 use rl_prio::Prio;
 
 impl SetWalk {
-    /// Returns what is known of the rests that a set refuses.
+    /// Returns what is recorded of the rests that a set refuses, or [`Life::Unknown`] if nothing is.
     pub(crate) fn life(&self, set: u32) -> Life
         ensures { result ≡ slice_index_or self.now.kept.lives set Unknown }
     {
@@ -26,7 +27,7 @@ impl SetWalk {
         }
     }
 
-    /// Records what is known of the rests that a set refuses.
+    /// Records `life` for the set with the number `set`, in place of what was recorded of it before.
     pub(crate) fn note(&mut self, set: u32, life: Life) -> Result<(), OutOfMemory>
         requires { set < length self.old.sets }
         ensures made { (a : Automaton) → IsMadeFor self.old a → IsLife a self.old.kept.routes (set_at self.old set) life → IsMadeFor self.new a }
@@ -39,7 +40,8 @@ impl SetWalk {
         Ok(())
     }
 
-    /// Appends a route, and returns its number.
+    /// Appends the route of the rest that begins with `letter` and goes on as the route with the number `next` describes.
+    /// Returns the number of the new route.
     pub(crate) fn put_route(&mut self, letter: u32, next: usize) -> Result<usize, OutOfMemory>
         ensures put { OnOk result (self.new.kept.routes ≡ self.old.kept.routes ++ On letter next ∷ []) }
         ensures number { IfOk result (λ r. r ≡ length self.old.kept.routes) }
@@ -52,7 +54,7 @@ impl SetWalk {
         Ok(number)
     }
 
-    /// Returns the rest that a route describes.
+    /// Returns the rest that the route with the number `route` describes.
     pub(crate) fn rest_of(&self, a: &Prio, route: usize) -> Result<Word, OutOfMemory>
         requires { (word : List ℕ) × Routed (letters_count a.now) self.now.kept.routes route word }
         ensures { (word : List ℕ) → Routed (letters_count a.now) self.now.kept.routes route word → IfOk result (λ w. w ≡ word) }
@@ -65,7 +67,8 @@ impl SetWalk {
         )
     }
 
-    /// Returns a search that begins with a set: the kept search, restarted, or a new one.
+    /// Returns a search that has found only the set with the number `set`: the kept search, restarted, if there is one, or a
+    /// new one.
     pub(crate) fn take_search(&mut self, set: u32) -> Result<RestSearch, OutOfMemory>
         ensures root { IfOk result (λ s. found_of s ≡ root_of set) }
         ensures same { self.new ≡ self.old }
@@ -78,7 +81,7 @@ impl SetWalk {
         Ok(search)
     }
 
-    /// Keeps a search for later use.
+    /// Keeps a search, so that a later one can use its memory.
     pub(crate) fn keep_search(&mut self, search: RestSearch)
         ensures { self.new ≡ self.old }
     {

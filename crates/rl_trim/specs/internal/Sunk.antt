@@ -1,29 +1,32 @@
--- For the proofs of trials: the states of a tree without some of its branches are the kept states of the whole tree, renumbered.
--- Trees without a guard have the start, a state for each place, the accepting state and the dead state.
+-- For the proofs of trials: the states of a tree without some of its branches are the kept states of the whole tree,
+-- renumbered. The automaton of a tree without guards has the start, state 0, a state `p + 1` for each place `p`, then the
+-- accepting state and the dead state. The list `keep` has a flag for each place, which says whether it is kept.
 use Rattle.std.specs.Prelude.{◌≡◌, ℕ, zero, suc, ◌+◌, ◌<◌, Bool, true, List, [], ◌∷◌, length, slice_index_or, if◌then◌else◌}
 use Rattle.rl_syntax.specs.declared.re.Ending.TheVariants.{AtEnd}
 use Rattle.rl_syntax.specs.Tree.{Tree, places}
 use Rattle.rl_prio.specs.States.{dead, state_count, moves_over}
 use Rattle.rl_sets.specs.Live.{holds}
 
--- How many of the first places are kept.
+-- How many of the first `p` places are kept; `p` is the second argument. Places without a flag count as kept.
 abbrev pub kept_before : List Bool → ℕ → ℕ
 kept_before keep zero = 0
 kept_before [] (suc p) = suc (kept_before [] p)
 kept_before (k ∷ keep) (suc p) = (if k then 1 else 0) + kept_before keep p
 
--- Whether a state is kept: every state is, except those of the places that aren't kept.
+-- Whether a state is kept. Every state is, except the states of places whose flag is false.
 abbrev pub is_kept : List Bool → ℕ → Bool
 is_kept keep zero = true
 is_kept keep (suc p) = slice_index_or keep p true
 
--- The number that a kept state has in the smaller tree.
+-- The number that a kept state of the whole tree has in the tree without the branches: the same number, less the number of
+-- states before it that aren't kept.
 abbrev pub sunk : List Bool → ℕ → ℕ
 sunk keep zero = 0
 sunk keep (suc p) = suc (kept_before keep p)
 
--- The states of the first tree are the kept states of the second, and their moves, over the letters of any sets, are the moves
--- between these; `n` is the number of codes.
+-- Holds if the states of the tree `s` are the kept states of the tree `t`, renumbered by `sunk`, and `s` has the same moves
+-- between them as `t`. The letters are the classes of codes that `sets` doesn't tell apart; `n` is the number of codes. Both
+-- trees have only the states that trees without guards have.
 pub record AreSunk (sets : List (ℕ → Bool)) (n : ℕ) (keep : List Bool) (s t : Tree) : Type 0 where
   pub flags : length keep ≡ places t
   pub kept : places s ≡ kept_before keep (places t)

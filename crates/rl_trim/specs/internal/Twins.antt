@@ -1,30 +1,35 @@
--- For trials of branches that have an equal one beside them: for each state that isn't kept, a kept one stands in.
+-- For trials of branches that have an equal branch beside them. Each state of the branch is replaced by the state of the equal
+-- branch at the same position, and each kept state by itself. A function `f` gives the replacement of each state.
 use Rattle.std.specs.Prelude.{◌≡◌, ◌≢◌, ℕ, ◌+◌, ◌%◌, ◌^◌, ◌<◌, ◌≤◌, Bool, true, List, if◌then◌else◌}
 use Rattle.rl_prio.specs.Automaton.{Automaton, IsAutomaton, letters_count, accepting_state, dead_state, moves_at}
 use Rattle.rl_sets.specs.Live.{holds}
 use Rattle.rl_trim.specs.internal.Sunk.{is_kept}
 
--- What stands in for a state: itself if it is kept, otherwise the state at a distance, counted modulo 2^32.
+-- The replacement of the state `q`: `q` itself if it is kept, otherwise the state `q + distance`, counted modulo 2^32 so that
+-- it may also lie before `q`.
 abbrev pub stand_in : List Bool → ℕ → ℕ → ℕ
 stand_in keep distance q = if is_kept keep q then q else (q + distance) % 2 ^ 32
 
--- On a letter, what stands in for the state moves to whatever stands in for a target of the state.
+-- Holds if, for each state `t` to which `q` moves on the letter, the replacement of `q` moves to the replacement of `t` on the
+-- letter.
 abbrev pub Follows : Automaton → (ℕ → ℕ) → ℕ → ℕ → Type 0
 Follows a f q letter = (t : ℕ) → holds (moves_at a q letter) t ≡ true → holds (moves_at a (f q) letter) (f t) ≡ true
 
--- What stands in for the state is kept, is dead only if the state is, and follows it on each letter and on the end letter.
+-- Holds if the replacement of the state `q` stands in for it: it is kept, isn't the dead state unless `q` is, and moves on
+-- each letter and the end letter to the replacement of each target of `q`.
 pub record StandsIn (a : Automaton) (keep : List Bool) (f : ℕ → ℕ) (q : ℕ) : Type 0 where
   pub kept : is_kept keep (f q) ≡ true
   pub alive : q ≢ dead_state a → f q ≢ dead_state a
   pub follows : (letter : ℕ) → letter ≤ letters_count a → Follows a f q letter
 
--- Each kept state stands in for itself, so does the accepting state, and something stands in for each state.
+-- Holds if the replacement of each state stands in for it, each kept state is its own replacement, and the accepting state is
+-- kept.
 pub record AreTwins (a : Automaton) (keep : List Bool) (f : ℕ → ℕ) : Type 0 where
   pub same : (q : ℕ) → is_kept keep q ≡ true → f q ≡ q
   pub accepting : is_kept keep (accepting_state a) ≡ true
   pub each : (q : ℕ) → q < a.states → StandsIn a keep f q
 
--- The automaton is well formed, and for each state that isn't kept, a kept one stands in.
+-- Holds if the automaton is well formed, and some function `stands_in` gives replacements as in `AreTwins`.
 pub record HasTwin (a : Automaton) (keep : List Bool) : Type 0 where
   pub whole : IsAutomaton a
   pub stands_in : ℕ → ℕ

@@ -1,11 +1,11 @@
 use Rattle.std.proofs.Common.{subst}
-use Rattle.rl_alike.specs.Answers.{first_passes}
+use Rattle.rl_alike.specs.Answers.{first_exceeds}
 use Rattle.rl_alike.specs.internal.Reads.{IsMarkedRead}
 use Rattle.rl_alike.proofs.AnswerLemmas.{found-with}
 use Rattle.rl_alike.proofs.answering.both_found.Goals as goal
 
-pub returns-in-Passed : goal.returns-in-Passed
-returns-in-Passed c = first_passes (subst (IsMarkedRead c.args.first.now) c.in-Passed.is c.in_ok-limit.ensures)
+pub returns-in-Exceeds : goal.returns-in-Exceeds
+returns-in-Exceeds c = first_exceeds (subst (IsMarkedRead c.args.first.now) c.in-Exceeds.is c.in_ok-limit.ensures)
 
 pub returns-in-Marked : goal.returns-in-Marked
 returns-in-Marked c = found-with _ _ _ _ _ (subst (IsMarkedRead c.args.first.now) c.in-Marked.is c.in_ok-limit.ensures) c.second_found-answer.ensures

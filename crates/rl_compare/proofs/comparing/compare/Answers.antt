@@ -3,7 +3,7 @@ use Rattle.rl_syntax.specs.declared.re.Ending.TheVariants.{AtEnd}
 use Rattle.rl_syntax.specs.Tree.{Tree, tree_of, IsOver}
 use Rattle.rl_syntax.specs.Cost.{matched}
 use Rattle.rl_compare.specs.Matched.{matched_tree}
-use Rattle.rl_compare.specs.Told.{AreTold}
+use Rattle.rl_compare.specs.Comparison.{IsTrueComparison}
 use Rattle.rl_compare.proofs.MatchedLaws.{matched-over}
 use Rattle.rl_compare.proofs.RegionLaws.{patterns-told}
 use Rattle.rl_compare.proofs.comparing.compare.Goals as goal
@@ -19,7 +19,7 @@ returns-clause-told c =
     let u = c.args.u in
     let s = matched_tree u (tree_of c.args.a.tree) c.args.a.ending in
     let t = matched_tree u (tree_of c.args.b.tree) c.args.b.ending in
-    let told : AreTold u (matched s AtEnd) (matched t AtEnd) c.in_ok-found.found =
-    subst (λ (x : Tree). AreTold u (matched s AtEnd) (matched x AtEnd) c.in_ok-found.found) c.in_ok-second.ensures
-    (subst (λ (x : Tree). AreTold u (matched x AtEnd) (matched (tree_of c.in_ok-second.second) AtEnd) c.in_ok-found.found) c.in_ok-first.ensures c.in_ok-found.ensures.told) in
+    let told : IsTrueComparison u (matched s AtEnd) (matched t AtEnd) c.in_ok-found.found =
+    subst (λ (x : Tree). IsTrueComparison u (matched s AtEnd) (matched x AtEnd) c.in_ok-found.found) c.in_ok-second.ensures
+    (subst (λ (x : Tree). IsTrueComparison u (matched x AtEnd) (matched (tree_of c.in_ok-second.second) AtEnd) c.in_ok-found.found) c.in_ok-first.ensures c.in_ok-found.ensures.told) in
     patterns-told u (tree_of c.args.a.tree) (tree_of c.args.b.tree) c.args.a.ending c.args.b.ending c.in_ok-found.found told

@@ -6,7 +6,7 @@ use Rattle.rl_graph.specs.Parts.{number_of}
 use Rattle.rl_degree.specs.internal.Reached.{IsHopeless}
 use Rattle.rl_degree.specs.internal.Splits.{HasSplit}
 use Rattle.rl_degree.specs.internal.Pairs.{lists_of}
-use Rattle.rl_degree.specs.internal.Rows.{Stand, field_of, stand_of, word_at, behind, IsSearching}
+use Rattle.rl_degree.specs.internal.Rows.{SearchState, field_of, search_state_of, word_at, behind, IsSearching}
 use Rattle.rl_degree.proofs.SearchLaws.{for-behind, hopeless-there, search-start, search-further, search-found, search-word, search-none}
 use Rattle.rl_degree.proofs.searches.search_for.Goals as goal
 
@@ -23,29 +23,29 @@ loop-found-init c =
     let row : c.index-hopeless.result.now ≡ get_or t.hopeless.items k [] =
     get_or_read t.hopeless.items c.of.result c.index-hopeless.result.now small c.index-hopeless.ensures [] ∙ ap (λ z. get_or t.hopeless.items z []) c.of.ensures in
     let hopeless = subst (IsHopeless g.states t.components t.reached.items k) (sym row) (hopeless-there g t c.requires.table.whole c.requires.table c.args.from c.args.to x c.requires.pair) in
-    let s = search-start g t c.requires.table.whole c.requires.table c.args.keeps c.index-hopeless.result.now x c.of-part.result _ c.index.result.now c.args.from c.args.to (stand_of c.in_ok-search.search) c.requires.from_in c.requires.to_in hopeless c.requires.pair
+    let s = search-start g t c.requires.table.whole c.requires.table c.args.keeps c.index-hopeless.result.now x c.of-part.result _ c.index.result.now c.args.from c.args.to (search_state_of c.in_ok-search.search) c.requires.from_in c.requires.to_in hopeless c.requires.pair
     c.of-part.ensures at (ap length c.members_of-pairs.ensures) c.in_ok-search.ensures in
     record {
       searching = s.0;
       asked = s.1;
-      keeps = ap (λ (z : Stand). z.keeps) c.in_ok-search.ensures;
-      from = ap (λ (z : Stand). z.from) c.in_ok-search.ensures;
-      to = ap (λ (z : Stand). z.to) c.in_ok-search.ensures;
+      keeps = ap (λ (z : SearchState). z.keeps) c.in_ok-search.ensures;
+      from = ap (λ (z : SearchState). z.from) c.in_ok-search.ensures;
+      to = ap (λ (z : SearchState). z.to) c.in_ok-search.ensures;
       wide = ap length c.in_ok-image.ensures ∙ (length-replicate c.states-states.result false ∙ c.states-states.ensures.number);
     }
 
 pub is_goal-requires : goal.is_goal-requires
 is_goal-requires c =
     let f = c.in-Some.found in
-    let s = stand_of c.next.new.self in
+    let s = search_state_of c.next.new.self in
     let d = field_of c.args.g.now c.args.table.now c.of-part.result in
     let h : IsSearching d (behind f s) = subst (IsSearching d) c.in-Some.ensures.found c.loop-found.invariant.searching in
-    omega (arith, sym (ap (λ (z : Stand). z.to) c.in-Some.ensures.found) ∙ c.loop-found.invariant.to, c.requires.to_in, (h.found f (inl refl)).wide)
+    omega (arith, sym (ap (λ (z : SearchState). z.to) c.in-Some.ensures.found) ∙ c.loop-found.invariant.to, c.requires.to_in, (h.found f (inl refl)).wide)
 
 pub returns-then-is_goal-clause-steps : goal.returns-then-is_goal-clause-steps
 returns-then-is_goal-clause-steps c =
     let d = field_of c.args.g.now c.args.table.now c.of-part.result in
-    let h : IsSearching d (behind c.in-Some.found (stand_of c.next.new.self)) = subst (IsSearching d) c.in-Some.ensures.found c.loop-found.invariant.searching in
+    let h : IsSearching d (behind c.in-Some.found (search_state_of c.next.new.self)) = subst (IsSearching d) c.in-Some.ensures.found c.loop-found.invariant.searching in
     record { rooted = h.rooted; step_in = (h.found c.in-Some.found (inl refl)).step_in }
 
 pub returns-then-is_goal-clause-word : goal.returns-then-is_goal-clause-word
@@ -54,18 +54,18 @@ returns-then-is_goal-clause-word c =
     let t = c.args.table.now in
     let f = c.in-Some.found in
     let part = c.of-part.result in
-    let s = stand_of c.next.new.self in
+    let s = search_state_of c.next.new.self in
     let d = field_of g t part in
     let i = c.loop-found.invariant in
     let e = c.in-Some.ensures.found in
     let h : IsSearching d (behind f s) = subst (IsSearching d) e i.searching in
-    let is = for-behind g t c.args.pair part s (stand_of c.loop-found.search) f e i.asked in
+    let is = for-behind g t c.args.pair part s (search_state_of c.loop-found.search) f e i.asked in
     let yes = c.is_goal.ensures.yes c.if-is_goal.true in
-    let from : s.from ≡ c.args.from = sym (ap (λ (z : Stand). z.from) e) ∙ i.from in
-    let to : s.to ≡ c.args.to = sym (ap (λ (z : Stand). z.to) e) ∙ i.to in
+    let from : s.from ≡ c.args.from = sym (ap (λ (z : SearchState). z.from) e) ∙ i.from in
+    let to : s.to ≡ c.args.to = sym (ap (λ (z : SearchState). z.to) e) ∙ i.to in
     λ keeps. subst (λ (z : ℕ). IsSplit (edges_of g) z c.args.to (word_at s.steps f.step)) from (subst (λ (z : ℕ). IsSplit (edges_of g) s.from z (word_at s.steps f.step)) to
     (search-word g t c.requires.table.whole c.requires.table c.args.pair part s f (word_at s.steps f.step) is h yes.0 yes.1
-    (sym (ap (λ (z : Stand). z.keeps) e) ∙ (i.keeps ∙ keeps)) refl))
+    (sym (ap (λ (z : SearchState). z.keeps) e) ∙ (i.keeps ∙ keeps)) refl))
 
 pub returns-then-is_goal-clause-found : goal.returns-then-is_goal-clause-found
 returns-then-is_goal-clause-found c =
@@ -73,15 +73,15 @@ returns-then-is_goal-clause-found c =
     let t = c.args.table.now in
     let f = c.in-Some.found in
     let part = c.of-part.result in
-    let s = stand_of c.next.new.self in
+    let s = search_state_of c.next.new.self in
     let d = field_of g t part in
     let i = c.loop-found.invariant in
     let e = c.in-Some.ensures.found in
     let h : IsSearching d (behind f s) = subst (IsSearching d) e i.searching in
-    let is = for-behind g t c.args.pair part s (stand_of c.loop-found.search) f e i.asked in
+    let is = for-behind g t c.args.pair part s (search_state_of c.loop-found.search) f e i.asked in
     let yes = c.is_goal.ensures.yes c.if-is_goal.true in
-    let from : s.from ≡ c.args.from = sym (ap (λ (z : Stand). z.from) e) ∙ i.from in
-    let to : s.to ≡ c.args.to = sym (ap (λ (z : Stand). z.to) e) ∙ i.to in
+    let from : s.from ≡ c.args.from = sym (ap (λ (z : SearchState). z.from) e) ∙ i.from in
+    let to : s.to ≡ c.args.to = sym (ap (λ (z : SearchState). z.to) e) ∙ i.to in
     subst (λ (z : ℕ). HasSplit (edges_of g) z c.args.to) from (subst (λ (z : ℕ). HasSplit (edges_of g) s.from z) to
     ((h.found f (inl refl)).word, search-found g t c.requires.table.whole c.requires.table c.args.pair part s f is h yes.0 yes.1))
 
@@ -91,18 +91,18 @@ loop-found-preserved-in_ok-follow c =
     let t = c.args.table.now in
     let f = c.in-Some.found in
     let part = c.of-part.result in
-    let s = stand_of c.next.new.self in
+    let s = search_state_of c.next.new.self in
     let i = c.loop-found.invariant in
     let e = c.in-Some.ensures.found in
-    let is = for-behind g t c.args.pair part s (stand_of c.loop-found.search) f e i.asked in
+    let is = for-behind g t c.args.pair part s (search_state_of c.loop-found.search) f e i.asked in
     let o = c.in_ok-follow.ensures in
-    let both = search-further g t c.requires.table.whole c.requires.table c.args.pair part s (stand_of c.follow.new.self) f is o.further o.followed (c.is_goal.ensures.no c.if-is_goal.false) in
+    let both = search-further g t c.requires.table.whole c.requires.table c.args.pair part s (search_state_of c.follow.new.self) f is o.further o.followed (c.is_goal.ensures.no c.if-is_goal.false) in
     record {
       searching = both.0;
       asked = both.1;
-      keeps = o.further.keeps ∙ (sym (ap (λ (z : Stand). z.keeps) e) ∙ i.keeps);
-      from = o.further.from ∙ (sym (ap (λ (z : Stand). z.from) e) ∙ i.from);
-      to = o.further.to ∙ (sym (ap (λ (z : Stand). z.to) e) ∙ i.to);
+      keeps = o.further.keeps ∙ (sym (ap (λ (z : SearchState). z.keeps) e) ∙ i.keeps);
+      from = o.further.from ∙ (sym (ap (λ (z : SearchState). z.from) e) ∙ i.from);
+      to = o.further.to ∙ (sym (ap (λ (z : SearchState). z.to) e) ∙ i.to);
       wide = c.follow.ensures.same_width ∙ i.wide;
     }
 
@@ -112,18 +112,18 @@ loop-found-preserved c =
     let t = c.args.table.now in
     let f = c.in-Some.found in
     let part = c.of-part.result in
-    let s = stand_of c.next.new.self in
+    let s = search_state_of c.next.new.self in
     let i = c.loop-found.invariant in
     let e = c.in-Some.ensures.found in
-    let is = for-behind g t c.args.pair part s (stand_of c.loop-found.search) f e i.asked in
+    let is = for-behind g t c.args.pair part s (search_state_of c.loop-found.search) f e i.asked in
     let o = c.in_ok-follow.ensures in
-    let both = search-further g t c.requires.table.whole c.requires.table c.args.pair part s (stand_of c.follow.new.self) f is o.further o.followed (c.is_goal.ensures.no c.if-is_goal.false) in
+    let both = search-further g t c.requires.table.whole c.requires.table c.args.pair part s (search_state_of c.follow.new.self) f is o.further o.followed (c.is_goal.ensures.no c.if-is_goal.false) in
     record {
       searching = both.0;
       asked = both.1;
-      keeps = o.further.keeps ∙ (sym (ap (λ (z : Stand). z.keeps) e) ∙ i.keeps);
-      from = o.further.from ∙ (sym (ap (λ (z : Stand). z.from) e) ∙ i.from);
-      to = o.further.to ∙ (sym (ap (λ (z : Stand). z.to) e) ∙ i.to);
+      keeps = o.further.keeps ∙ (sym (ap (λ (z : SearchState). z.keeps) e) ∙ i.keeps);
+      from = o.further.from ∙ (sym (ap (λ (z : SearchState). z.from) e) ∙ i.from);
+      to = o.further.to ∙ (sym (ap (λ (z : SearchState). z.to) e) ∙ i.to);
       wide = c.follow.ensures.same_width ∙ i.wide;
     }
 
@@ -131,7 +131,7 @@ pub returns-clause-none : goal.returns-clause-none
 returns-clause-none c =
     let g = c.args.g.now in
     let i = c.loop-found.invariant in
-    let s = stand_of c.loop-found.search in
+    let s = search_state_of c.loop-found.search in
     λ split. search-none g c.args.table.now c.requires.table.whole c.requires.table c.requires.no_twin c.args.pair c.of-part.result s i.asked i.searching c.in_default.ensures.none
     (subst (λ (z : ℕ). HasSplit (edges_of g) z s.to) (sym i.from) (subst (λ (z : ℕ). HasSplit (edges_of g) c.args.from z) (sym i.to) split))
 

@@ -80,10 +80,10 @@ pub returns-in_default-clause-right : goal.returns-in_default-clause-right
 returns-in_default-clause-right c =
     has_unknown_flags (is_true c.args.site.whole c.if-not-site.false) c.in-Ok.ensures.ok (unknown c.args.site.flags c.in_default.not-Known) c.refusal-in_default.ensures
 
-pub returns-in-Err-parse-clause-right : goal.returns-in-Err-parse-clause-right
-returns-in-Err-parse-clause-right c =
-    without_pattern c.args.source.now c.args.tokens.now c.args.options c.args.site c.without_pattern-refused.result c.in-Ok.literal c.in-Known.flags c.in-Err-parse.error
-    (is_true c.args.site.whole c.if-not-site.false) c.in-Ok.ensures.ok c.in-Known.is c.in-Err-parse.ensures c.without_pattern-refused.ensures.is c.without_pattern-refused.ensures.some
+pub returns-clause-right : goal.returns-clause-right
+returns-clause-right c =
+    without_pattern c.args.source.now c.args.tokens.now c.args.options c.args.site c.without_pattern.result c.in-Ok.literal c.in-Known.flags c.in-Err-parse.error
+    (is_true c.args.site.whole c.if-not-site.false) c.in-Ok.ensures.ok c.in-Known.is c.in-Err-parse.ensures c.without_pattern.ensures.is c.without_pattern.ensures.some
 
 pub value-requires-clause-run : goal.value-requires-clause-run
 value-requires-clause-run c = c.requires.run.run
@@ -92,11 +92,11 @@ pub parse-requires : goal.parse-requires
 parse-requires c =
     value_text c.args.source.now c.args.tokens.now c.args.site.count c.args.site.first c.in-Ok.literal c.requires.tokens c.in-Ok.ensures.ok
 
-pub with_pattern-judged-requires-clause-text : goal.with_pattern-judged-requires-clause-text
-with_pattern-judged-requires-clause-text c =
+pub with_pattern-requires-clause-text : goal.with_pattern-requires-clause-text
+with_pattern-requires-clause-text c =
     value_text c.args.source.now c.args.tokens.now c.args.site.count c.args.site.first c.in-Ok.literal c.requires.tokens c.in-Ok.ensures.ok
 
-pub returns-clause-right : goal.returns-clause-right
-returns-clause-right c =
-    judged c.args.source.now c.args.tokens.now c.args.options c.args.site c.with_pattern-judged.result c.in-Ok.literal c.in-Known.flags c.in-Ok-parse.pattern
-    (is_true c.args.site.whole c.if-not-site.false) c.in-Ok.ensures.ok c.in-Known.is c.in-Ok-parse.ensures c.with_pattern-judged.ensures.right
+pub returns-in-Ok-parse-clause-right : goal.returns-in-Ok-parse-clause-right
+returns-in-Ok-parse-clause-right c =
+    judged c.args.source.now c.args.tokens.now c.args.options c.args.site c.with_pattern.result c.in-Ok.literal c.in-Known.flags c.in-Ok-parse.pattern
+    (is_true c.args.site.whole c.if-not-site.false) c.in-Ok.ensures.ok c.in-Known.is c.in-Ok-parse.ensures c.with_pattern.ensures.right

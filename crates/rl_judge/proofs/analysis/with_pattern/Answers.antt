@@ -13,12 +13,12 @@ suggestion_beside-requires-clause-text c =
 pub returns-clause-right : goal.returns-clause-right
 returns-clause-right c = record {
   verdict = c.in_ok-verdict.verdict;
-  suggestion = c.in-Ok.suggestion;
-  becomes = c.in-Ok-suggested_verdict.becomes;
+  suggestion = c.in_ok-suggestion.suggestion;
+  becomes = c.in_ok-becomes.becomes;
   right = c.in_ok-verdict.ensures.right;
-  suggested = c.in-Ok.ensures.right;
+  suggested = c.in_ok-suggestion.ensures.right;
   next =
-      subst (λ s. IsSuggestedVerdict c.args.flags c.args.options c.args.literal.now.universe (text_to_judge c.args.options s) c.in-Ok-suggested_verdict.becomes)
-      c.as_ref.ensures.value c.in-Ok-suggested_verdict.ensures;
+      subst (λ s. IsSuggestedVerdict c.args.flags c.args.options c.args.literal.now.universe (text_to_judge c.args.options s) c.in_ok-becomes.becomes)
+      c.as_ref.ensures.value c.in_ok-becomes.ensures;
   is = search rules;
 }

@@ -13,10 +13,10 @@ pub returns-clause-right : goal.returns-clause-right
 returns-clause-right c =
     let source = c.args.source.now in
     let a = c.in_ok-analysis.analysis in
-    let path = c.in-Ok.ensures.cases in
+    let path = c.in_ok-path.ensures.cases in
     let at = c.some_place_at-at.ensures.place ∙ ap (option_map (place_of source)) c.start_of.ensures ∙ place_from source _ in
     let fault = c.some_place_at-fault.ensures.place in
-    let marks = c.in-Ok-marks_of.ensures in
+    let marks = c.in_ok-marks.ensures in
     record {
       analysis = a;
       right = subst (λ o. IsAnalysisOf source c.args.tokens.now o c.args.site a) c.options_of.ensures c.in_ok-analysis.ensures.right;

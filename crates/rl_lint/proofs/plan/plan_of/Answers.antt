@@ -1,6 +1,6 @@
 use Rattle.std.proofs.Common.{◌≡◌, ◌∙◌, Err, ap, codes, false, subst, sym}
 use Rattle.rl_walk.specs.Visits.{moment_of}
-use Rattle.rl_words.specs.Call.{said}
+use Rattle.rl_words.specs.Call.{call_of}
 use Rattle.rl_lint.specs.Endings.{refuses, unreadable}
 use Rattle.rl_lint.specs.Refusals.{IsRefused, invalid}
 use Rattle.rl_lint.specs.RunEnding.{IsRunEnding, asks_tree}
@@ -11,7 +11,7 @@ use Rattle.rl_lint.proofs.plan.plan_of.Goals as goal
 
 pub returns-in-Ok-Unreadable-clause-ending : goal.returns-in-Ok-Unreadable-clause-ending
 returns-in-Ok-Unreadable-clause-ending g c =
-    let call = said c.in-Ok.words in
+    let call = call_of c.in-Ok.words in
     let old = moment_of g.T.Tree.told g.T.Tree.fault_count c.args.tree.now in
     let mid = moment_of g.T.Tree.told g.T.Tree.fault_count c.read_config.new.tree in
     subst (λ o. IsRunEnding o old mid (unreadable (codes "relint: settings unreadable\n"))) (sym c.in-Ok.ensures.ok)
@@ -19,7 +19,7 @@ returns-in-Ok-Unreadable-clause-ending g c =
 
 pub returns-in-Ok-Unreadable-clause-cause : goal.returns-in-Ok-Unreadable-clause-cause
 returns-in-Ok-Unreadable-clause-cause g c =
-    let call = said c.in-Ok.words in
+    let call = call_of c.in-Ok.words in
     let old = moment_of g.T.Tree.told g.T.Tree.fault_count c.args.tree.now in
     let mid = moment_of g.T.Tree.told g.T.Tree.fault_count c.read_config.new.tree in
     run-failed call old mid (unreadable (codes "relint: settings unreadable\n"))
@@ -27,7 +27,7 @@ returns-in-Ok-Unreadable-clause-cause g c =
 
 pub returns-in-Ok-Refused-clause-ending : goal.returns-in-Ok-Refused-clause-ending
 returns-in-Ok-Refused-clause-ending g c =
-    let call = said c.in-Ok.words in
+    let call = call_of c.in-Ok.words in
     let old = moment_of g.T.Tree.told g.T.Tree.fault_count c.args.tree.now in
     let mid = moment_of g.T.Tree.told g.T.Tree.fault_count c.read_config.new.tree in
     subst (λ o. IsRunEnding o old mid (refuses (codes "relint: settings refused\n"))) (sym c.in-Ok.ensures.ok)
@@ -35,7 +35,7 @@ returns-in-Ok-Refused-clause-ending g c =
 
 pub returns-in-Ok-Refused-clause-refused : goal.returns-in-Ok-Refused-clause-refused
 returns-in-Ok-Refused-clause-refused g c =
-    let call = said c.in-Ok.words in
+    let call = call_of c.in-Ok.words in
     run-refused _ call _ _ (refuses (codes "relint: settings refused\n")) c.in-Ok.ensures.ok
     (call-refused call call.options.settings _ _ c.in-Ok-Refused.field-0 c.in-Ok-Refused.ensures.read c.in-Ok-Refused.field-0-is)
 
@@ -44,7 +44,7 @@ returns-in-Ok-Taken-clause-ending g c =
     let old = moment_of g.T.Tree.told g.T.Tree.fault_count c.args.tree.now in
     let mid = moment_of g.T.Tree.told g.T.Tree.fault_count c.read_config.new.tree in
     let new = moment_of g.T.Tree.told g.T.Tree.fault_count c.action_plan.new.tree in
-    run-given c.action_plan.result _ (said c.in-Ok.words) old new c.in-Ok.ensures.ok
+    run-given c.action_plan.result _ (call_of c.in-Ok.words) old new c.in-Ok.ensures.ok
     (run-taken c.action_plan.result c.in-Ok.words old mid new c.in-Ok-Taken.field-0 c.in-Ok-Taken.start _ c.in-Ok-Taken.ensures.read c.in-Ok-Taken.field-0-is
     c.with_values-settings.ensures.value c.action_plan.ensures.ending)
 
@@ -53,7 +53,7 @@ returns-in-Ok-Taken-clause-cause g c =
     let old = moment_of g.T.Tree.told g.T.Tree.fault_count c.args.tree.now in
     let mid = moment_of g.T.Tree.told g.T.Tree.fault_count c.read_config.new.tree in
     let new = moment_of g.T.Tree.told g.T.Tree.fault_count c.action_plan.new.tree in
-    plans-failed c.action_plan.result (said c.in-Ok.words) old new
+    plans-failed c.action_plan.result (call_of c.in-Ok.words) old new
     (run-taken c.action_plan.result c.in-Ok.words old mid new c.in-Ok-Taken.field-0 c.in-Ok-Taken.start _ c.in-Ok-Taken.ensures.read c.in-Ok-Taken.field-0-is
     c.with_values-settings.ensures.value c.action_plan.ensures.ending)
 
@@ -62,7 +62,7 @@ returns-in-Ok-Taken-clause-refused g c =
     let old = moment_of g.T.Tree.told g.T.Tree.fault_count c.args.tree.now in
     let mid = moment_of g.T.Tree.told g.T.Tree.fault_count c.read_config.new.tree in
     let new = moment_of g.T.Tree.told g.T.Tree.fault_count c.action_plan.new.tree in
-    plans-refused c.action_plan.result _ (said c.in-Ok.words) old new c.in-Ok.ensures.ok
+    plans-refused c.action_plan.result _ (call_of c.in-Ok.words) old new c.in-Ok.ensures.ok
     (run-taken c.action_plan.result c.in-Ok.words old mid new c.in-Ok-Taken.field-0 c.in-Ok-Taken.start _ c.in-Ok-Taken.ensures.read c.in-Ok-Taken.field-0-is
     c.with_values-settings.ensures.value c.action_plan.ensures.ending)
 

@@ -1,4 +1,6 @@
--- `Items` as a type former, so that a type may contain lists of itself.
+-- `Items` as a type former, so that a type may contain lists of itself. A former says what the values over a type `X`
+-- are, and which finitely many members of `X`, the children, such a value has, in order. `this` is the former whose
+-- values are one child each.
 use mathlib.Core.Path.{◌≡◌, refl, sym}
 use mathlib.Core.List.{List, []}
 use mathlib.Core.Former.{Former, this, list, via, children}
@@ -19,30 +21,41 @@ use Rattle.rl_lists.specs.declared.items.Items.TheView.{view, invariant}
 use Rattle.rl_lists.specs.contracts.items.Items as C
 use Rattle.rl_lists.specs.contracts.items.Items.TheInside as I
 
+-- The type former of `Items`: the values of `the_former g` are the lists of values of the former `g`.
 abbrev pub the_former : Former {0} → Former {0}
 the_former g = list g
 
+-- The function that finds the greatest measure among the children of a list of values of `g`, with a proof that it
+-- does, given such a function and proof for a value of `g`.
 abbrev pub the_weighed : {g : Former {0}} → Weighed g → Weighed (the_former g)
 the_weighed w = w_list w
 
+-- The empty list. Its type shows that a list needs no item: `⊥` is the type without members.
 pub the_empty : List ⊥
 the_empty = []
 
+-- The items of the list `d`, in order: the list itself.
 abbrev pub the_items : (X : Type 0) → List X → List X
 the_items X d = d
 
+-- Proves that the children of a list, in order, are the items of the list.
 pub the_items_listed : (X : Type 0) (d : List X) → listed _ (children (the_former this) X d) ≡ the_items X d
 the_items_listed X d = list-listed X d
 
+-- The former of `Inside`, the struct behind `Items`, whose only field is a vector of items.
 abbrev fields : Former {0}
 fields = via (vec.the_former this Global) Inside (λ X a. a.items) (λ X v. record { items = v }) (λ X a. refl) (λ X v. refl)
 
 module _ (R S : RattleType) (h : R.Denot → S.Denot) where
+  -- Proves that if `h` keeps the memory layout of items and what each item owns and lends, then applying `h` to each
+  -- item of a list keeps the same for the list.
   pub the_places : Alike R S h → Alike (C.the_row R) (C.the_row S) ((the_former this).map R.Denot S.Denot h)
   the_places a = view_places fields (list this) view (λ X Y k u. refl) (λ X u. refl) R.Denot S.Denot h (C.the_row R).coded (C.the_row S).coded
       (invariant R.Denot) (invariant S.Denot) (λ u p q. refl) (λ u p q. refl) (λ u e. tt) (λ u e. tt)
       (over (I.the_row R)) (over (I.the_row S))
       (struct_places (I.the_type R) (I.the_type S) (vec.mapped h, tt) _ (λ d. refl) refl (laid _ _ _ (vec.the_places heap.the_row ghosts R S h a), tt))
 
+  -- Proves that if `h` keeps the code of each item, then applying `h` to each item of a list keeps the code of the
+  -- list. The code of a value is a tree of numbers, and different values of a type have different codes.
   pub the_codes_placed : Recodes R S h → Recodes (C.the_row R) (C.the_row S) ((the_former this).map R.Denot S.Denot h)
   the_codes_placed e d = sym (code_map R.coded.code S.coded.code h (λ x. sym (e x)) d)

@@ -1,6 +1,6 @@
 -- Removing one anchor, and none.
 use Rattle.std.proofs.Common.{◌≡◌, ◌≢◌, ◌<◌, true, length, rules, arith, map, reverse, sym, ap, ◌∙◌}
-use Rattle.rl_pattern.specs.Found.{drops, no_trail, trailing_run}
+use Rattle.rl_pattern.specs.Found.{is_some_trail, no_trail, trailing_run}
 use Rattle.rl_pattern.specs.internal.Views.{node_of}
 use Rattle.rl_pattern.specs.internal.Judged.{trail_at, both_trails}
 use Rattle.rl_pattern.proofs.Anchors.{trailing_off, run_more, trail_stands, some_trail, trailing_kept, run_ended}
@@ -9,7 +9,7 @@ use Rattle.rl_pattern.proofs.inner.take_trailing.Goals as goal
 pub loop-last-preserved : goal.loop-last-preserved
 loop-last-preserved c =
     let some : c.loop-last.last ≢ no_trail = search rules in
-    let trail : drops c.loop-last.last ≡ true = some_trail c.loop-last.last some in
+    let trail : is_some_trail c.loop-last.last ≡ true = some_trail c.loop-last.last some in
     let stands : 0 < length c.loop-last.items.items = trail_stands node_of c.loop-last.items.items c.loop-last.last c.loop-last.invariant.last trail in
     let full : 0 < c.loop-last.items.len = omega (arith, stands, c.loop-last.items.ok) in
     record {

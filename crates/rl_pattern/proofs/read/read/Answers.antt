@@ -3,7 +3,7 @@ use Rattle.std.proofs.Common.{◌≡◌, ℕ, ◌<◌, ◌+◌, suc, List, lengt
 use Rattle.std.specs.Prelude.{slice_index_or}
 use Rattle.std.proofs.lemmas.Option.{slice_get-get_or}
 use Rattle.rl_pattern.specs.internal.Views.{state_of}
-use Rattle.rl_pattern.specs.internal.Answering.{Standing}
+use Rattle.rl_pattern.specs.internal.Answering.{HasRead}
 use Rattle.rl_pattern.proofs.Loop.{stand_fits, went_on, went_wrong, ended_right}
 use Rattle.rl_pattern.proofs.read.read.Goals as goal
 
@@ -22,7 +22,7 @@ pub loop-code-preserved : goal.loop-code-preserved
 loop-code-preserved c =
     let e : suc c.loop-code.place ≡ c.loop-code.place + 1 = omega arith in
     let next = went_on c.args.flags c.args.text c.args.codes.now c.loop-code.place (slice_index_or c.args.codes.now c.loop-code.code-index 0) (state_of c.loop-code.state) (state_of c.one_code.new.state) c.loop-code.invariant.0 (code_here c.args.codes.now c.loop-code.place c.loop-code.code-index c.loop-code.invariant.1 c.loop-code-test.true) c.in_default.ensures in
-    (subst (λ k. Standing c.args.flags c.args.text c.args.codes.now k (state_of c.one_code.new.state)) e next, ap (λ n. n + 1) c.loop-code.invariant.1)
+    (subst (λ k. HasRead c.args.flags c.args.text c.args.codes.now k (state_of c.one_code.new.state)) e next, ap (λ n. n + 1) c.loop-code.invariant.1)
 
 pub at_end-requires-clause-fits : goal.at_end-requires-clause-fits
 at_end-requires-clause-fits c =

@@ -5,7 +5,7 @@ use Rattle.std.proofs.lemmas.Result.{err_from_is_err_and}
 use Rattle.rl_pylex.specs.Source.{IsReadAt}
 use Rattle.rl_pystr.specs.declared.fault.StrError.{StrError}
 use Rattle.rl_pystr.specs.declared.placed.Placed.{Placed}
-use Rattle.rl_pystr.specs.Values.{before, IsRefused}
+use Rattle.rl_pystr.specs.Values.{joined_results, IsRefused}
 use Rattle.rl_pystr.specs.Runs.{values}
 use Rattle.rl_pystr.proofs.Bodies.{behind_first, front_done, front_read, front_refused, rest_read}
 use Rattle.rl_pystr.proofs.run.push_values.Goals as goal
@@ -21,7 +21,7 @@ loop-rest-preserved c =
       same =
           c.loop-rest.invariant.same
           ∙ front_done c.args.bytes c.args.source.now rest _ _ c.loop-rest.out c.push_token.new.out c.in-len1-up.len_at_least refl c.in_ok-push_token.ensures.ok
-          ∙ ap (λ ts. before (Ok c.push_token.new.out) (values c.args.bytes c.args.source.now ts)) (sym (behind_first rest));
+          ∙ ap (λ ts. joined_results (Ok c.push_token.new.out) (values c.args.bytes c.args.source.now ts)) (sym (behind_first rest));
       read = subst (All (IsReadAt c.args.source.now)) (sym (behind_first rest)) (rest_read c.args.source.now rest c.loop-rest.invariant.read);
     }
 

@@ -1,6 +1,6 @@
 use Rattle.std.proofs.Common.{length, subst, ◌<◌}
 use Rattle.std.proofs.lemmas.Result.{IfErr-weaker, IfOk-weaker}
-use Rattle.rl_ranges.proofs.LetterLemmas.{TellsApart-more, values_many}
+use Rattle.rl_ranges.proofs.LetterLemmas.{NumbersLetters-more, values_many}
 use Rattle.rl_ranges.specs.Numbering.{IsNumbered, firsts, same_value}
 use Rattle.rl_ranges.specs.internal.Splitting.{value_in}
 use Rattle.rl_ranges.specs.declared.letters.TheConstants.{MOST_LETTERS}
@@ -13,7 +13,7 @@ returns-clause-ok c =
     let n = code_count c.args.universe in
     let old = c.args.known.now in
     IfOk-weaker c.split.result _ _
-    (λ v numbers sets told. TellsApart-more sets s n old.stretches.items v.stretches.items old.least.items v.least.items told
+    (λ v numbers sets told. NumbersLetters-more sets s n old.stretches.items v.stretches.items old.least.items v.least.items told
     (subst (λ l. IsNumbered (value_in old.stretches.items l) n v.stretches.items v.least.items) c.as_ranges.ensures.value
     (subst (λ m. IsNumbered (value_in old.stretches.items c.as_ranges.result.now) m v.stretches.items v.least.items) c.count.ensures numbers))) c.split.ensures.ok
 

@@ -4,13 +4,13 @@ use Rattle.std.proofs.lemmas.List.Elements.{All-replicate, All-set, All-weaker}
 use Rattle.std.proofs.lemmas.Result.{err_from_is_err_and}
 use Rattle.rl_ranges.proofs.OrderLemmas.{many-later, many-more, picked-more, picked-passed, picked-rest, picked-splits, tells-known, tells-more, tells-none}
 use Rattle.rl_ranges.specs.Codes.{has}
-use Rattle.rl_ranges.specs.internal.Splitting.{HasTooMany, TellsMore}
-use Rattle.rl_ranges.specs.internal.Order.{StandsBefore, is_taken, picked}
+use Rattle.rl_ranges.specs.internal.Splitting.{HasTooMany, RefinesLetters}
+use Rattle.rl_ranges.specs.internal.Order.{OccursBefore, is_taken, picked}
 use Rattle.rl_ranges.specs.Text.{code_count}
 use Rattle.rl_ranges.proofs.letters.refined_by.Goals.{then-is_taken+then-not-stands_before+in_ok-known, else-is_taken, else-is_taken-via-then-is_taken+else-not-stands_before, else-is_taken-via-else-is_taken}
 use Rattle.rl_ranges.proofs.letters.refined_by.Goals as goal
 
-stands_earlier : (sets : List (List (ℕ × ℕ))) (count k : ℕ) (s : List (ℕ × ℕ)) → StandsBefore sets count s → count ≤ k → StandsBefore sets k s
+stands_earlier : (sets : List (List (ℕ × ℕ))) (count k : ℕ) (s : List (ℕ × ℕ)) → OccursBefore sets count s → count ≤ k → OccursBefore sets k s
 stands_earlier sets count k s h le = (h.0, omega (arith, h.1, le), h.2)
 
 pub loop-place-init : goal.loop-place-init
@@ -38,7 +38,7 @@ loop-place-preserved c =
           let here_taken = sym c.is_taken.ensures ∙ w.if-is_taken.true in
           rw (w.known-is, w.taken-is) (record {
             table = w.in_ok-known.ensures.table;
-            told = subst (λ more. TellsMore old.stretches.items old.least.items w.in_ok-known.known.stretches.items w.in_ok-known.known.least.items more n) (sym (picked-more taken sets k s k_in at here_taken))
+            told = subst (λ more. RefinesLetters old.stretches.items old.least.items w.in_ok-known.known.stretches.items w.in_ok-known.known.least.items more n) (sym (picked-more taken sets k s k_in at here_taken))
                 (tells-more (picked taken (take k sets)) (has s ∷ []) n old.stretches.items here.stretches.items w.in_ok-known.known.stretches.items old.least.items here.least.items w.in_ok-known.known.least.items c.loop-place.invariant.told w.in_ok-known.ensures.ok);
             slots = length-set c.loop-place.taken _ (k + 1) ∙ c.loop-place.invariant.slots;
             taken = All-set (λ count. count ≤ k + 1) c.loop-place.taken _ (k + 1) (omega arith) later;
@@ -49,7 +49,7 @@ loop-place-preserved c =
             let stands = stands_earlier sets _ k s (v.stands_before.ensures v.if-not-stands_before.false) (c.loop-place.invariant.taken _ _ (omega (arith, v.slot_of.ensures, c.loop-place.invariant.slots))) in
             rw (w.known-is, w.taken-is) (record {
               table = c.loop-place.invariant.table;
-              told = subst (λ more. TellsMore old.stretches.items old.least.items here.stretches.items here.least.items more n) (sym (picked-more taken sets k s k_in at here_taken))
+              told = subst (λ more. RefinesLetters old.stretches.items old.least.items here.stretches.items here.least.items more n) (sym (picked-more taken sets k s k_in at here_taken))
                   (tells-known (picked taken (take k sets)) (has s) n old.stretches.items here.stretches.items old.least.items here.least.items
                   (λ x y h. picked-splits taken sets stands.0 k s x y stands.1 (omega (arith, k_in)) stands.2 here_taken h) c.loop-place.invariant.told);
               slots = c.loop-place.invariant.slots;
@@ -58,7 +58,7 @@ loop-place-preserved c =
         | else-is_taken-via-else-is_taken v ↦
             rw (w.known-is, w.taken-is) (record {
               table = c.loop-place.invariant.table;
-              told = subst (λ more. TellsMore old.stretches.items old.least.items here.stretches.items here.least.items more n) (sym (picked-passed taken sets k s k_in at (sym c.is_taken.ensures ∙ v.if-is_taken.false))) c.loop-place.invariant.told;
+              told = subst (λ more. RefinesLetters old.stretches.items old.least.items here.stretches.items here.least.items more n) (sym (picked-passed taken sets k s k_in at (sym c.is_taken.ensures ∙ v.if-is_taken.false))) c.loop-place.invariant.told;
               slots = c.loop-place.invariant.slots;
               taken = later;
             })

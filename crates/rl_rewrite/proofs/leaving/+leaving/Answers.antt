@@ -5,9 +5,9 @@ use Rattle.rl_syntax.specs.declared.pat.Pat.TheVariants as V
 use Rattle.rl_syntax.specs.declared.pat.Pat.TheFolds.{fold-roll-Pat}
 use Rattle.rl_syntax.specs.PatTree.{PatTree, repeat, group, pat_of, layer_of, branch_of}
 use Rattle.rl_syntax.specs.Counting.{branch_tree}
-use Rattle.rl_pattern.specs.Cut.{left}
+use Rattle.rl_pattern.specs.Cut.{remaining}
 use Rattle.rl_pattern.specs.Suggested.{among, no_span}
-use Rattle.rl_rewrite.specs.internal.LeftLists.{all_left, some_left}
+use Rattle.rl_rewrite.specs.internal.LeftLists.{all_remaining, some_remaining}
 use Rattle.rl_rewrite.proofs.PartTrees.{class-tree, repeat-tree, group-tree, leaf_left, seq_left, choice_left}
 use Rattle.rl_rewrite.proofs.Rounds.{from_place, trees_from, one_more, none_more, one_seen}
 use Rattle.rl_rewrite.proofs.leaving.+leaving.Goals as goal
@@ -47,49 +47,49 @@ pub left_part-returns-in_ok-body-in-Repeat : goal.left_part-returns-in_ok-body-i
 left_part-returns-in_ok-body-in-Repeat t c =
     let gone = among c.args.dropped.now in
     let r = c.in-Repeat in
-    let inner : pat_of c.in_ok-body-in-Repeat.body ≡ left gone no_span (pat_of r.body.value) = c.in_ok-body-in-Repeat.ensures ∙ ap (λ b. left gone no_span (pat_of b)) c.deref.ensures in
+    let inner : pat_of c.in_ok-body-in-Repeat.body ≡ remaining gone no_span (pat_of r.body.value) = c.in_ok-body-in-Repeat.ensures ∙ ap (λ b. remaining gone no_span (pat_of b)) c.deref.ensures in
     subst (λ x. IfOk c.repeat_of.result (λ found. pat_of found ≡ x))
-    (ap (repeat r.span r.mark r.min r.max r.greedy) inner ∙ sym (ap (left gone no_span) (ap pat_of r.is ∙ repeat-tree r.span r.mark r.min r.max r.greedy r.body)))
+    (ap (repeat r.span r.mark r.min r.max r.greedy) inner ∙ sym (ap (remaining gone no_span) (ap pat_of r.is ∙ repeat-tree r.span r.mark r.min r.max r.greedy r.body)))
     c.repeat_of.ensures
 
 pub left_part-returns-in_ok-body-in-Group : goal.left_part-returns-in_ok-body-in-Group
 left_part-returns-in_ok-body-in-Group t c =
     let gone = among c.args.dropped.now in
     let g = c.in-Group in
-    let inner : pat_of c.in_ok-body-in-Group.body ≡ left gone no_span (pat_of g.body.value) = c.in_ok-body-in-Group.ensures ∙ ap (λ b. left gone no_span (pat_of b)) c.deref-in-Group.ensures in
+    let inner : pat_of c.in_ok-body-in-Group.body ≡ remaining gone no_span (pat_of g.body.value) = c.in_ok-body-in-Group.ensures ∙ ap (λ b. remaining gone no_span (pat_of b)) c.deref-in-Group.ensures in
     subst (λ x. IfOk c.group_of.result (λ found. pat_of found ≡ x))
-    (ap (group g.span g.captures) inner ∙ sym (ap (left gone no_span) (ap pat_of g.is ∙ group-tree g.span g.captures g.body)))
+    (ap (group g.span g.captures) inner ∙ sym (ap (remaining gone no_span) (ap pat_of g.is ∙ group-tree g.span g.captures g.body)))
     c.group_of.ensures
 
 pub left_part-returns-in-Ok : goal.left_part-returns-in-Ok
 left_part-returns-in-Ok t c =
     let gone = among c.args.dropped.now in
     seq_left gone c.in-Seq.span c.in-Seq.items c.put_items_left.new.found c.args.part.now c.in-Seq.is
-    (c.in-Ok.ensures ∙ ap (λ f. map pat_of f ++ all_left gone (map pat_of c.as_slice.result.now)) c.new-left.ensures ∙ ap (λ ps. all_left gone (map pat_of ps)) c.as_slice.ensures)
+    (c.in-Ok.ensures ∙ ap (λ f. map pat_of f ++ all_remaining gone (map pat_of c.as_slice.result.now)) c.new-left.ensures ∙ ap (λ ps. all_remaining gone (map pat_of ps)) c.as_slice.ensures)
 
 pub left_part-returns-in-Ok-put_branches_left : goal.left_part-returns-in-Ok-put_branches_left
 left_part-returns-in-Ok-put_branches_left t c =
     let gone = among c.args.dropped.now in
     choice_left gone c.in-Choice.span c.in-Choice.branches c.put_branches_left.new.found c.args.part.now c.choice_of.result c.in-Choice.is
-    (c.in-Ok-put_branches_left.ensures ∙ ap (λ f. map branch_tree f ++ some_left gone (map branch_tree c.as_slice-in-Choice.result.now)) c.new-left-in-Choice.ensures ∙ ap (λ bs. some_left gone (map branch_tree bs)) c.as_slice-in-Choice.ensures)
+    (c.in-Ok-put_branches_left.ensures ∙ ap (λ f. map branch_tree f ++ some_remaining gone (map branch_tree c.as_slice-in-Choice.result.now)) c.new-left-in-Choice.ensures ∙ ap (λ bs. some_remaining gone (map branch_tree bs)) c.as_slice-in-Choice.ensures)
     c.choice_of.ensures
 
 pub put_items_left-loop-item-preserved : goal.put_items_left-loop-item-preserved
 put_items_left-loop-item-preserved t c =
     let gone = among c.args.dropped.now in
-    let one = left gone no_span (pat_of c.item-item.result) in
-    one_more (map pat_of c.loop-item.found) (map pat_of c.push.new.self) (one ∷ []) (all_left gone (map pat_of (drop (c.loop-item.item-index + 1) c.args.items.now))) _ _
+    let one = remaining gone no_span (pat_of c.item-item.result) in
+    one_more (map pat_of c.loop-item.found) (map pat_of c.push.new.self) (one ∷ []) (all_remaining gone (map pat_of (drop (c.loop-item.item-index + 1) c.args.items.now))) _ _
     (one_seen pat_of c.loop-item.found c.push.new.self c.in_ok-left.left one c.in_ok-push.ensures.pushed c.in_ok-left.ensures)
-    (ap (λ ps. all_left gone (map pat_of ps)) (from_place c.args.items.now c.loop-item.item-index c.item-item.result c.loop-item-test.true c.item-item.is)) c.loop-item.invariant
+    (ap (λ ps. all_remaining gone (map pat_of ps)) (from_place c.args.items.now c.loop-item.item-index c.item-item.result c.loop-item-test.true c.item-item.is)) c.loop-item.invariant
 
 pub put_branches_left-loop-branch-preserved : goal.put_branches_left-loop-branch-preserved
 put_branches_left-loop-branch-preserved t c =
     let gone = among c.args.dropped.now in
     let b = c.branch-item.result in
-    let one : Span × PatTree = (b.span, left gone no_span (pat_of b.body)) in
-    let rest = some_left gone (map branch_tree (drop (c.loop-branch.branch-index + 1) c.args.branches.now)) in
-    let from : some_left gone (map branch_tree (drop c.loop-branch.branch-index c.args.branches.now)) ≡ (if gone b.span then rest else one ∷ rest) =
-    ap (some_left gone) (trees_from c.args.branches.now c.loop-branch.branch-index b c.loop-branch-test.true c.branch-item.is) in
+    let one : Span × PatTree = (b.span, remaining gone no_span (pat_of b.body)) in
+    let rest = some_remaining gone (map branch_tree (drop (c.loop-branch.branch-index + 1) c.args.branches.now)) in
+    let from : some_remaining gone (map branch_tree (drop c.loop-branch.branch-index c.args.branches.now)) ≡ (if gone b.span then rest else one ∷ rest) =
+    ap (some_remaining gone) (trees_from c.args.branches.now c.loop-branch.branch-index b c.loop-branch-test.true c.branch-item.is) in
     elim c.if-not-among.branch [
       | put_branches_left-then-not-among+in_ok-body+in_ok-push w ↦
           one_more (map branch_tree c.loop-branch.found) (map branch_tree c.if-not-among.found) (one ∷ []) rest _ _

@@ -2,11 +2,11 @@ use Rattle.std.proofs.Common.{◌≤◌, ◌∷◌, IfOk, sym, ap, ◌∙◌, su
 use Rattle.rl_syntax.specs.Pattern.{body_of, universe_of}
 use Rattle.rl_syntax.specs.Tree.{tree_of, size}
 use Rattle.rl_syntax.specs.declared.limits.TheConstants.{MOST_NODES}
-use Rattle.rl_equiv.specs.Bases.{TellsNoMore}
+use Rattle.rl_equiv.specs.Bases.{DistinguishesNoMore}
 use Rattle.rl_equiv.specs.Limits.{AreWithin}
 use Rattle.rl_pattern.specs.Suggested.{without}
 use Rattle.rl_rewrite.specs.Verdicts.{IsVerdict}
-use Rattle.rl_rewrite.specs.internal.Trials.{verdict_of, IsTold}
+use Rattle.rl_rewrite.specs.internal.Trials.{verdict_of, IsTrueTrial}
 use Rattle.rl_rewrite.proofs.Within.{left_small, trial_letters, trial_within}
 use Rattle.rl_rewrite.proofs.trying.compare_branch.Goals as goal
 
@@ -18,8 +18,8 @@ tree_without-without_it-requires-clause-small c =
 pub run_trial-trial-requires-clause-letters : goal.run_trial-trial-requires-clause-letters
 run_trial-trial-requires-clause-letters c =
     let e = c.as_slice.ensures ∙ c.in_ok-more.ensures in
-    let w : TellsNoMore (without c.args.dropped.now (body_of c.args.p.now)) (without c.as_slice.result.now (body_of c.args.p.now)) =
-    subst (λ m. TellsNoMore (without c.args.dropped.now (body_of c.args.p.now)) (without m (body_of c.args.p.now))) (sym e)
+    let w : DistinguishesNoMore (without c.args.dropped.now (body_of c.args.p.now)) (without c.as_slice.result.now (body_of c.args.p.now)) =
+    subst (λ m. DistinguishesNoMore (without c.args.dropped.now (body_of c.args.p.now)) (without m (body_of c.args.p.now))) (sym e)
     (trial_letters c.args.branch c.args.dropped.now (body_of c.args.p.now) c.requires.may) in
     rw (c.requires.tree, c.in_ok-after.ensures.tree) w
 
@@ -45,6 +45,6 @@ returns-clause-told c =
     let r = c.run_trial-trial.result in
     let body = body_of c.args.p.now in
     let after = tree_of c.in_ok-after.after in
-    subst (λ x. IfOk r (IsTold (universe_of c.args.p.now) (without c.args.dropped.now body) x)) (c.in_ok-after.ensures.tree ∙ ap (λ m. without m body) (c.as_slice.ensures ∙ c.in_ok-more.ensures))
-    (subst (λ x. IfOk r (IsTold (universe_of c.args.p.now) x after)) c.requires.tree
-    (subst (λ x. IfOk r (IsTold x (tree_of c.args.base.now.tree) after)) c.requires.universe c.run_trial-trial.ensures.told))
+    subst (λ x. IfOk r (IsTrueTrial (universe_of c.args.p.now) (without c.args.dropped.now body) x)) (c.in_ok-after.ensures.tree ∙ ap (λ m. without m body) (c.as_slice.ensures ∙ c.in_ok-more.ensures))
+    (subst (λ x. IfOk r (IsTrueTrial (universe_of c.args.p.now) x after)) c.requires.tree
+    (subst (λ x. IfOk r (IsTrueTrial x (tree_of c.args.base.now.tree) after)) c.requires.universe c.run_trial-trial.ensures.told))

@@ -3,7 +3,7 @@ use Rattle.rl_syntax.specs.Pattern.{body_of, universe_of}
 use Rattle.rl_syntax.specs.Tree.{tree_of}
 use Rattle.rl_pattern.specs.Suggested.{without}
 use Rattle.rl_rewrite.specs.Verdicts.{IsVerdict}
-use Rattle.rl_rewrite.specs.internal.Trials.{verdict_of, IsTold}
+use Rattle.rl_rewrite.specs.internal.Trials.{verdict_of, IsTrueTrial}
 use Rattle.rl_rewrite.proofs.trying.trial_of.Goals as goal
 
 pub returns-clause-verdict : goal.returns-clause-verdict
@@ -14,7 +14,7 @@ returns-clause-verdict c =
 pub returns-clause-told : goal.returns-clause-told
 returns-clause-told c =
     let body = body_of c.args.p.now in
-    subst (λ d. IsTold (universe_of c.args.p.now) (without d body) (without (c.args.branch ∷ d) body) c.in-Ok.trial) c.as_slice-3.ensures c.in-Ok.ensures.told
+    subst (λ d. IsTrueTrial (universe_of c.args.p.now) (without d body) (without (c.args.branch ∷ d) body) c.in-Ok.trial) c.as_slice-3.ensures c.in-Ok.ensures.told
 
 pub returns-clause-tree : goal.returns-clause-tree
 returns-clause-tree c =

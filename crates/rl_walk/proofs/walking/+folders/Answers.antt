@@ -11,7 +11,7 @@ enter-returns-then-not-branch-clause-does g t c =
 
 pub enter-returns-then-level-gt-MOST_LEVELS-clause-does : goal.enter-returns-then-level-gt-MOST_LEVELS-clause-does
 enter-returns-then-level-gt-MOST_LEVELS-clause-does g t c =
-    on_visit c.visit.result (g.V.Visitor.was_told c.args.visitor.now) (g.V.Visitor.was_told c.visit.new.self)
+    on_visit c.visit.result (g.V.Visitor.has_received c.args.visitor.now) (g.V.Visitor.has_received c.visit.new.self)
     (TooDeep c.in_ok-name.name) (TooDeep c.args.path.now) c.visit.ensures.told (ap TooDeep c.in_ok-name.ensures)
     (folder-deep _ _ _ _ c.in_ok-add.ensures.added c.in_ok-add.ensures.met c.if-not-branch.false _ _ _ _ c.if-level-gt-MOST_LEVELS.true)
 
@@ -27,7 +27,7 @@ pub enter-returns-in_ok-unlisted-in-Err-Failed-clause-does : goal.enter-returns-
 enter-returns-in_ok-unlisted-in-Err-Failed-clause-does g t c =
     let trail = rw c.in-Err-Failed.field-0-is at c.in-Err-Failed.ensures.told in
     let cause = rw c.in-Err-Failed.field-0-is at c.in-Err-Failed.ensures.cause in
-    on_visit c.visit-in-Err-Failed.result (g.V.Visitor.was_told c.args.visitor.now) (g.V.Visitor.was_told c.visit-in-Err-Failed.new.self)
+    on_visit c.visit-in-Err-Failed.result (g.V.Visitor.has_received c.args.visitor.now) (g.V.Visitor.has_received c.visit-in-Err-Failed.new.self)
     (Unreadable c.in_ok-unlisted-in-Err-Failed.unlisted) (Unreadable c.args.path.now) c.visit-in-Err-Failed.ensures.told (ap Unreadable c.in_ok-unlisted-in-Err-Failed.ensures)
     (folder-unlisted _ _ _ _ c.in_ok-add.ensures.added c.in_ok-add.ensures.met c.if-not-branch.false _ _ _ _ _ c.if-level-gt-MOST_LEVELS.false trail (cause.failed refl))
 

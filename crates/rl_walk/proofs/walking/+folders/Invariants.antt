@@ -17,7 +17,7 @@ abbrev pub invariant-take_children-loop-child : goal.invariant-take_children-loo
 invariant-take_children-loop-child g l = record {
   does : Does (steps_below l.path l.level (take l.child-index l.children))
       (moment_of g.T.Tree.told g.T.Tree.fault_count l.initial.tree) (moment_of g.T.Tree.told g.T.Tree.fault_count l.tree)
-      l.initial.met l.met (g.V.Visitor.was_told l.initial.visitor) (g.V.Visitor.was_told l.visitor);
+      l.initial.met l.met (g.V.Visitor.has_received l.initial.visitor) (g.V.Visitor.has_received l.visitor);
   later : g.T.Tree.fault_count l.initial.tree ≤ g.T.Tree.fault_count l.tree;
   config : g.V.Visitor.config l.visitor ≡ g.V.Visitor.config l.initial.visitor;
 }

@@ -7,7 +7,7 @@ use Rattle.rl_walk.proofs.walking.walk.Goals as goal
 pub loop-path-init : goal.loop-path-init
 loop-path-init g c =
     let now = moment_of g.T.Tree.told g.T.Tree.fault_count c.args.tree.now in
-    let was = g.V.Visitor.was_told c.args.visitor.now in
+    let was = g.V.Visitor.has_received c.args.visitor.now in
     record {
       does = subst (λ m. Does [] now now [] m was was) (sym c.new-met.ensures) (Does-none now [] was);
       later = omega arith;

@@ -8,7 +8,7 @@ abbrev pub invariant-loop-path : goal.invariant-loop-path
 invariant-loop-path g l = record {
   does : Does (map named (map (λ p. p.now) (take l.path-index l.paths)))
       (moment_of g.T.Tree.told g.T.Tree.fault_count l.initial.tree) (moment_of g.T.Tree.told g.T.Tree.fault_count l.tree)
-      [] l.met (g.V.Visitor.was_told l.initial.visitor) (g.V.Visitor.was_told l.visitor);
+      [] l.met (g.V.Visitor.has_received l.initial.visitor) (g.V.Visitor.has_received l.visitor);
   later : g.T.Tree.fault_count l.initial.tree ≤ g.T.Tree.fault_count l.tree;
   config : g.V.Visitor.config l.visitor ≡ g.V.Visitor.config l.initial.visitor;
 }

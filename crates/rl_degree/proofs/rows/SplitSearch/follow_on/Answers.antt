@@ -2,7 +2,7 @@ use Rattle.std.proofs.Common.{ℕ, refl, inl, sym, ◌∙◌, ap, subst, eqb-tru
 use Rattle.std.proofs.lemmas.Result.{on_ok_weaker}
 use Rattle.rl_lanes.specs.Tables.{image as rows_image}
 use Rattle.rl_graph.specs.Graph.{edges_of}
-use Rattle.rl_degree.specs.internal.Rows.{field_of, stand_of, outer_of, IsMet}
+use Rattle.rl_degree.specs.internal.Rows.{field_of, search_state_of, outer_of, IsMet}
 use Rattle.rl_degree.proofs.RowLaws.{further-self, image-of, tables-there, used-there, table-at, has-long, outer-has, outer-only, met-all}
 use Rattle.rl_degree.proofs.rows.SplitSearch.follow_on.Goals as goal
 use Rattle.rl_degree.proofs.rows.SplitSearch.follow_on.Goals.{then-is_empty-via-then-is_empty, then-is_empty-via-else-is_empty+then-is_empty-2}
@@ -21,27 +21,27 @@ returns-then-is_empty-clause-followed c m fresh y k hy =
 
 pub index-requires : goal.index-requires
 index-requires c =
-    let are = tables-there c.args.g.now c.args.table.now c.args.part c.args.found.now (stand_of c.args.self.now) c.requires.table c.requires.searching in
+    let are = tables-there c.args.g.now c.args.table.now c.args.part c.args.found.now (search_state_of c.args.self.now) c.requires.table c.requires.searching in
     omega (arith, are.size, c.requires.letter_in)
 
 pub image-requires-clause-rows : goal.image-requires-clause-rows
 image-requires-clause-rows c =
     let f = c.args.found.now in
-    let used = used-there c.args.g.now c.args.table.now c.args.part c.args.letter c.args.first c.args.found.now (stand_of c.args.self.now) c.edges-firsts.result.now c.requires.table c.requires.searching c.requires.first c.edges-firsts.ensures.targets (sym c.is_empty.ensures ∙ c.if-is_empty.false) in
-    let on = table-at c.args.g.now c.args.table.now c.args.part c.args.letter f (stand_of c.args.self.now) c.index.result.now c.requires.table c.requires.searching c.requires.letter_in used c.index.ensures in
+    let used = used-there c.args.g.now c.args.table.now c.args.part c.args.letter c.args.first c.args.found.now (search_state_of c.args.self.now) c.edges-firsts.result.now c.requires.table c.requires.searching c.requires.first c.edges-firsts.ensures.targets (sym c.is_empty.ensures ∙ c.if-is_empty.false) in
+    let on = table-at c.args.g.now c.args.table.now c.args.part c.args.letter f (search_state_of c.args.self.now) c.index.result.now c.requires.table c.requires.searching c.requires.letter_in used c.index.ensures in
     (c.requires.searching.found f (inl refl)).wide ∙ sym on.high
 
 pub image-requires-clause-places : goal.image-requires-clause-places
 image-requires-clause-places c =
-    let used = used-there c.args.g.now c.args.table.now c.args.part c.args.letter c.args.first c.args.found.now (stand_of c.args.self.now) c.edges-firsts.result.now c.requires.table c.requires.searching c.requires.first c.edges-firsts.ensures.targets (sym c.is_empty.ensures ∙ c.if-is_empty.false) in
-    let on = table-at c.args.g.now c.args.table.now c.args.part c.args.letter c.args.found.now (stand_of c.args.self.now) c.index.result.now c.requires.table c.requires.searching c.requires.letter_in used c.index.ensures in
+    let used = used-there c.args.g.now c.args.table.now c.args.part c.args.letter c.args.first c.args.found.now (search_state_of c.args.self.now) c.edges-firsts.result.now c.requires.table c.requires.searching c.requires.first c.edges-firsts.ensures.targets (sym c.is_empty.ensures ∙ c.if-is_empty.false) in
+    let on = table-at c.args.g.now c.args.table.now c.args.part c.args.letter c.args.found.now (search_state_of c.args.self.now) c.index.result.now c.requires.table c.requires.searching c.requires.letter_in used c.index.ensures in
     λ k row lt. on.wide k row lt ∙ sym c.requires.wide
 
 pub spread-requires-clause-image : goal.spread-requires-clause-image
 spread-requires-clause-image c =
     let f = c.args.found.now in
-    let used = used-there c.args.g.now c.args.table.now c.args.part c.args.letter c.args.first c.args.found.now (stand_of c.args.self.now) c.edges-firsts.result.now c.requires.table c.requires.searching c.requires.first c.edges-firsts.ensures.targets (sym c.is_empty.ensures ∙ c.if-is_empty.false) in
-    let on = table-at c.args.g.now c.args.table.now c.args.part c.args.letter f (stand_of c.args.self.now) c.index.result.now c.requires.table c.requires.searching c.requires.letter_in used c.index.ensures in
+    let used = used-there c.args.g.now c.args.table.now c.args.part c.args.letter c.args.first c.args.found.now (search_state_of c.args.self.now) c.edges-firsts.result.now c.requires.table c.requires.searching c.requires.first c.edges-firsts.ensures.targets (sym c.is_empty.ensures ∙ c.if-is_empty.false) in
+    let on = table-at c.args.g.now c.args.table.now c.args.part c.args.letter f (search_state_of c.args.self.now) c.index.result.now c.requires.table c.requires.searching c.requires.letter_in used c.index.ensures in
     image-of c.args.g.now c.args.table.now c.args.part c.args.letter f c.index.result.now c.image.new.into on
     (c.image.ensures.image ∙ ap (rows_image c.index.result.now f.middle) c.requires.wide)
 
@@ -57,11 +57,11 @@ returns-clause-followed c =
     let d = field_of c.args.g.now t c.args.part in
     let f = c.args.found.now in
     let z = outer_of d f in
-    let new = stand_of c.spread.new.self in
+    let new = search_state_of c.spread.new.self in
     let firsts = c.edges-firsts.result.now in
     let seconds = c.edges-seconds.result.now in
-    let used = used-there c.args.g.now c.args.table.now c.args.part c.args.letter c.args.first c.args.found.now (stand_of c.args.self.now) c.edges-firsts.result.now c.requires.table c.requires.searching c.requires.first c.edges-firsts.ensures.targets (sym c.is_empty.ensures ∙ c.if-is_empty.false) in
-    let on = table-at c.args.g.now t c.args.part c.args.letter f (stand_of c.args.self.now) c.index.result.now c.requires.table c.requires.searching c.requires.letter_in used c.index.ensures in
+    let used = used-there c.args.g.now c.args.table.now c.args.part c.args.letter c.args.first c.args.found.now (search_state_of c.args.self.now) c.edges-firsts.result.now c.requires.table c.requires.searching c.requires.first c.edges-firsts.ensures.targets (sym c.is_empty.ensures ∙ c.if-is_empty.false) in
+    let on = table-at c.args.g.now t c.args.part c.args.letter f (search_state_of c.args.self.now) c.index.result.now c.requires.table c.requires.searching c.requires.letter_in used c.index.ensures in
     let image = image-of c.args.g.now t c.args.part c.args.letter f c.index.result.now c.image.new.into on
     (c.image.ensures.image ∙ ap (rows_image c.index.result.now f.middle) c.requires.wide) in
     let only = λ (y : ℕ). outer-only (edges_of t.inner) t.inner.states c.args.first c.args.second z c.args.letter y firsts seconds c.requires.first c.requires.second c.edges-firsts.ensures.targets c.edges-seconds.ensures.targets in
@@ -82,4 +82,4 @@ pub returns-clause-further : goal.returns-clause-further
 returns-clause-further c = on_ok_weaker c.spread.result (λ o. o.0) c.spread.ensures
 
 pub returns-then-is_empty-clause-further : goal.returns-then-is_empty-clause-further
-returns-then-is_empty-clause-further c = further-self (field_of c.args.g.now c.args.table.now c.args.part) c.args.found.now (stand_of c.args.self.now) c.requires.searching
+returns-then-is_empty-clause-further c = further-self (field_of c.args.g.now c.args.table.now c.args.part) c.args.found.now (search_state_of c.args.self.now) c.requires.searching

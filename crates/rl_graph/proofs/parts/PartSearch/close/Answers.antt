@@ -1,13 +1,13 @@
 use Rattle.std.proofs.Common.{ℕ, List, ◌≡◌, ◌+◌, ◌<◌, length, get_or, take, set, arith, ◌∙◌, ap, length-set}
 use Rattle.std.proofs.lemmas.List.{get_or_read}
 use Rattle.rl_graph.specs.declared.parts.SearchPlace.TheVariants.{Unseen, Done}
-use Rattle.rl_graph.specs.internal.Search.{stand_of}
+use Rattle.rl_graph.specs.internal.Search.{search_state_of}
 use Rattle.rl_graph.proofs.StackLaws.{below-more, below-all, listed-in}
 use Rattle.rl_graph.proofs.parts.PartSearch.close.Goals as goal
 
 pub index_mut-requires : goal.index_mut-requires
 index_mut-requires c =
-    let s = stand_of c.args.self.now in
+    let s = search_state_of c.args.self.now in
     let i = c.loop-depth.invariant in
     let in_loop : c.loop-depth.depth < length c.loop-depth.self.open_states.items = omega (arith, ap length i.2) in
     let within : c.loop-depth.depth < length s.open_states = omega (arith, ap length i.2) in
@@ -17,7 +17,7 @@ index_mut-requires c =
 
 pub loop-depth-preserved : goal.loop-depth-preserved
 loop-depth-preserved c =
-    let s = stand_of c.args.self.now in
+    let s = search_state_of c.args.self.now in
     let i = c.loop-depth.invariant in
     let places = c.loop-depth.self.places.items in
     let in_loop : c.loop-depth.depth < length c.loop-depth.self.open_states.items = omega (arith, ap length i.2) in
@@ -35,7 +35,7 @@ loop-depth-preserved c =
 
 pub returns : goal.returns
 returns c =
-    let s = stand_of c.args.self.now in
+    let s = search_state_of c.args.self.now in
     let i = c.loop-depth.invariant in
     record {
       size = i.0;

@@ -2,7 +2,7 @@ use Rattle.std.proofs.Common.{◌≡◌, ◌<◌, ◌≤◌, ◌-◌, ◌^◌, �
 use Rattle.std.proofs.lemmas.List.{length_push}
 use Rattle.rl_graph.specs.declared.row_list.Span.{Span}
 use Rattle.rl_graph.specs.Spans.{rows_in, no_span}
-use Rattle.rl_graph.specs.internal.GrownRows.{Holds}
+use Rattle.rl_graph.specs.internal.GrownRows.{IsFilledRowAt}
 use Rattle.rl_graph.proofs.SpanLaws.{at_err, IsSet, rows-length, rows-grown, within-grown, set-out, set-last, set-apart, set-begun, still, within-still, rows-set, within-set, rows-moved, within-moved}
 use Rattle.rl_graph.proofs.row_list.RowList.push_at.Goals as goal
 
@@ -278,7 +278,7 @@ invariant_of-self-2 c =
     let end : c.len-count.result ≡ length numbers = omega (arith, c.len-count.ensures, s.numbers.ok.0) in
     let t : IsSet numbers new apart apart spans place c.in_ok-begun.begun row =
     set-begun numbers new apart spans rows place span c.in_ok-begun.begun number c.self.view_is c.self.invariant h c.index-span.ensures c.if-span.false none c.lengthened-2.ensures.grown
-    (subst (λ n. Holds new (drop n numbers ++ number ∷ []) c.in_ok-begun.begun) end c.in_ok-begun.ensures.row) in
+    (subst (λ n. IsFilledRowAt new (drop n numbers ++ number ∷ []) c.in_ok-begun.begun) end c.in_ok-begun.ensures.row) in
     within-set numbers new apart apart spans place c.in_ok-begun.begun row h c.self.invariant t (longer (get_or rows place []) number c.requires.room)
 
 pub returns-clause-pushed : goal.returns-clause-pushed
@@ -298,5 +298,5 @@ returns-clause-pushed c =
     let end : c.len-count.result ≡ length numbers = omega (arith, c.len-count.ensures, s.numbers.ok.0) in
     let t : IsSet numbers new apart apart spans place c.in_ok-begun.begun row =
     set-begun numbers new apart spans rows place span c.in_ok-begun.begun number c.self.view_is c.self.invariant h c.index-span.ensures c.if-span.false none c.lengthened-2.ensures.grown
-    (subst (λ n. Holds new (drop n numbers ++ number ∷ []) c.in_ok-begun.begun) end c.in_ok-begun.ensures.row) in
+    (subst (λ n. IsFilledRowAt new (drop n numbers ++ number ∷ []) c.in_ok-begun.begun) end c.in_ok-begun.ensures.row) in
     rows-set numbers new apart apart spans place c.in_ok-begun.begun row h c.self.invariant t ∙ ap (λ (r : List (List ℕ)). set r place row) c.self.view_is

@@ -1,11 +1,11 @@
-use Rattle.std.proofs.Common.{◌≡◌, ◌-◌, ◌<◌, length, sym, subst, ap, ap₂, ◌∙◌, arith}
+use Rattle.std.proofs.Common.{◌≡◌, ◌-◌, ◌<◌, length, sym, subst, ap₂, ◌∙◌, arith}
 use Rattle.std.specs.Cmp.Lexicographic.{same_text}
 use Rattle.std.proofs.lemmas.Result.{err_from_is_err_and}
 use Rattle.rl_prio.specs.Automaton.{moves_at}
 use Rattle.rl_sets.specs.Live.{image}
 use Rattle.rl_pairs.specs.declared.finder.Key.{Key}
 use Rattle.rl_pairs.specs.LivePairs.{pairs_from, next_pairs}
-use Rattle.rl_pairs.specs.internal.Counting.{Stands}
+use Rattle.rl_pairs.specs.internal.Counting.{HasNumber}
 use Rattle.rl_pairs.specs.internal.Finding.{found_of, pair_of}
 use Rattle.rl_pairs.proofs.CountingLaws.{onward-trans}
 use Rattle.rl_pairs.proofs.FindingLaws.{found-keeps}
@@ -70,7 +70,7 @@ returns-then-before-after-clause-onward c = onward-trans c.args.a.now c.args.wal
 pub returns-then-before-after-clause-stands : goal.returns-then-before-after-clause-stands
 returns-then-before-after-clause-stands c =
     let e = key-read (found_of c.args.self.now) c.args.from c.index-pair.result.now c.index-pair.ensures in
-    subst (λ (k : Key). Stands c.image_of-2.new.walk (image c.args.a.now (pair_of c.args.walk.now k).set c.args.letter)) e
+    subst (λ (k : Key). HasNumber c.image_of-2.new.walk (image c.args.a.now (pair_of c.args.walk.now k).set c.args.letter)) e
     (image-stands c.args.a.now c.args.walk.now c.image_of.new.walk c.image_of-2.new.walk c.index-pair.result.now.set c.args.letter c.in_ok-after.after
     (subst (λ (k : Key). k.set < length c.args.walk.now.sets) (sym e) (c.requires.found.sets c.args.from c.requires.from_in)) c.in_ok-before.ensures.onward.keeps c.in_ok-after.ensures.image)
 
@@ -90,6 +90,6 @@ returns-else-before-after-clause-onward c = onward-trans c.args.a.now c.args.wal
 pub returns-else-before-after-clause-stands : goal.returns-else-before-after-clause-stands
 returns-else-before-after-clause-stands c =
     let e = key-read (found_of c.args.self.now) c.args.from c.index-pair.result.now c.index-pair.ensures in
-    subst (λ (k : Key). Stands c.image_of-2.new.walk (image c.args.a.now (pair_of c.args.walk.now k).set c.args.letter)) e
+    subst (λ (k : Key). HasNumber c.image_of-2.new.walk (image c.args.a.now (pair_of c.args.walk.now k).set c.args.letter)) e
     (image-stands c.args.a.now c.args.walk.now c.image_of.new.walk c.image_of-2.new.walk c.index-pair.result.now.set c.args.letter c.in_ok-after.after
     (subst (λ (k : Key). k.set < length c.args.walk.now.sets) (sym e) (c.requires.found.sets c.args.from c.requires.from_in)) c.in_ok-before.ensures.onward.keeps c.in_ok-after.ensures.image)

@@ -1,7 +1,7 @@
 use Rattle.std.proofs.Common.{Some, sym, ap, ◌∙◌}
 use Rattle.std.specs.Prelude.{bytes_eq, option_map}
 use Rattle.rl_source.proofs.Found.{found_here, found_none}
-use Rattle.rl_source.proofs.node_map.held_at.Goals as goal
+use Rattle.rl_source.proofs.node_map.found_at.Goals as goal
 
 pub returns-then-eq : goal.returns-then-eq
 returns-then-eq c =

@@ -1,6 +1,6 @@
 use Rattle.std.proofs.Common.{ℕ, Option, unwrap_or, ap, ◌∙◌}
 use Rattle.rl_sarif.proofs.KeyLemmas.{found}
-use Rattle.rl_sarif.proofs.tally.left.Goals as goal
+use Rattle.rl_sarif.proofs.tally.remaining.Goals as goal
 
 pub returns : goal.returns
 returns c = c.unwrap_or.ensures ∙ ap (λ (o : Option ℕ). unwrap_or o 0) (c.copied.ensures ∙ c.get.ensures.value ∙ found c.args.tally.now c.args.key.now)
