@@ -11,7 +11,11 @@ RUNS, KEPT = 3, 10
 
 
 def measure_shapes(page: str, shapes: Sequence[Shape], judge: Callable[[str, Shape], Run]) -> int:
-    """Reads the words of the command line, and prints the slowest shapes."""
+    """Prints the slowest shapes of `shapes`, all of them with --all, or random ones with --search; returns the exit status 0.
+
+    `page` is the docstring of the command, and `judge` runs the program, whose path it takes, on a shape. Ends this command
+    with status 2 if the options aren't valid, or if there is no program.
+    """
     asked = _given(page)
     program = program_at(asked.program)
     if asked.search:
@@ -28,12 +32,13 @@ def measure_shapes(page: str, shapes: Sequence[Shape], judge: Callable[[str, Sha
 
 
 def _measured(program: str, shapes: Sequence[Shape], judge: Callable[[str, Shape], Run]) -> List[Found]:
-    """The shapes with what they took, the slowest first."""
+    """Returns the shapes, the slowest first, each with the least time and the least memory of RUNS runs of the program."""
     runs = [least([judge(program, it) for _ in range(RUNS)]) for it in shapes]
     return slowest([Found(took, shape, at) for at, (took, shape) in enumerate(zip(runs, shapes))], len(shapes))
 
 
 def _given(page: str) -> argparse.Namespace:
+    """Returns the options of the command line. Ends the program with status 2 if they aren't valid."""
     options = argparse.ArgumentParser(description=page.split("\n", maxsplit=1)[0], allow_abbrev=False)
     options.add_argument("program", metavar="PROGRAM", nargs="?", help="relint (default: crates/relint/out/relint)")
     options.add_argument("--all", action="store_true", help="print all shapes that are kept, not the ten slowest alone")

@@ -9,17 +9,19 @@ Result = TypeVar("Result")
 
 
 class GivenUp(BaseException):
-    """The call took too long. (No handler for errors may catch it.)"""
+    """Raised in a call that takes too long. It isn't an Exception, so that `except Exception` doesn't catch it."""
 
 
 def _give_up(_number: int, _frame: Optional[FrameType]) -> None:
+    """Raises GivenUp; this is the handler of the timer's signal."""
     raise GivenUp
 
 
 def limited(seconds: float, call: Callable[[], Result]) -> Result:
-    """Returns what the call returns. Raises GivenUp if it takes more seconds of processor time than that.
+    """Returns what `call` returns. Raises GivenUp if it takes more than `seconds` of this process's processor time.
 
-    A busy machine doesn't change which calls are given up. The call has to be Python code: no single step may take long.
+    If `seconds` is 0, there is no limit. Has to be called in the main thread. A step in C code is given up only at its end.
+    The handler of SIGPROF is replaced.
     """
     signal.signal(signal.SIGPROF, _give_up)
     try:

@@ -18,7 +18,10 @@ _START = 'out=$0 err=$1; ulimit -t "$2"; shift 2; { read -r go <&4; exec "$@" >"
 
 
 class Run(NamedTuple):
-    """A run of a program: its status (above 128 where a signal ended it), processor time in seconds, and memory in MB."""
+    """A run of a program: its status, its processor time in seconds, and the most memory that it held, in MB of 1024 kB.
+
+    The status is 128 plus the number of the signal if a signal ended it.
+    """
 
     status: int
     seconds: float
@@ -26,13 +29,16 @@ class Run(NamedTuple):
 
 
 def fail(message: str) -> NoReturn:
-    """Ends the command with a line on standard error and status 2."""
+    """Writes the message to standard error, after the command's name, and ends the command with status 2."""
     sys.stderr.write(f"{Path(sys.argv[0]).name}: {message}\n")
     sys.exit(2)
 
 
 def program_at(path: Optional[str]) -> str:
-    """The absolute path of the program to measure: the one that is named, else the one that was built here."""
+    """Returns the absolute path of the program to measure: the one that is named, or else the one that was built here.
+
+    Ends the command with status 2 if it isn't there or can't be run.
+    """
     found = Path(path) if path else BUILT
     if not found.is_file() or not os.access(found, os.X_OK):
         hint = "" if path else "; build it, or name another program"
@@ -41,7 +47,11 @@ def program_at(path: Optional[str]) -> str:
 
 
 def run(words: Sequence[str], limit: int = 600, out: str = os.devnull, err: str = os.devnull) -> Run:
-    """Runs a program. It is ended after `limit` seconds of processor time; `out` and `err` are files for what it writes."""
+    """Runs a program, and returns what it took; `words` are its path and its arguments.
+
+    It is ended after `limit` seconds of processor time. `out` and `err` are the paths of files for what it writes, which are
+    replaced. Ends the command with status 2 if the system doesn't let it wait for the program, or if the shell can't start it.
+    """
     libc = ctypes.CDLL(None, use_errno=True)
     if libc.prctl(_BE_SUBREAPER, 1, 0, 0, 0) != 0:
         fail("this system doesn't let a program wait for processes that others began (Linux does)")
@@ -57,7 +67,11 @@ def run(words: Sequence[str], limit: int = 600, out: str = os.devnull, err: str 
 
 
 def _split_off(shell: List[str]) -> Tuple[int, int]:
-    """Runs the shell; the process that it left, and the end of a pipe that this process waits for."""
+    """Runs the shell with the words `shell`; it starts the program in the background, and ends.
+
+    Returns the number of the program's process, and the end of a pipe: the program begins once that end is closed. Ends the
+    command with status 2 if the shell starts no process.
+    """
     (told, telling), (waiting, begin) = os.pipe(), os.pipe()
     actions = [(os.POSIX_SPAWN_DUP2, telling, 1), (os.POSIX_SPAWN_DUP2, waiting, 4)]
     pid = os.posix_spawn("/bin/sh", shell, dict(os.environ), file_actions=actions)
@@ -72,25 +86,28 @@ def _split_off(shell: List[str]) -> Tuple[int, int]:
 
 
 def least(runs: Sequence[Run]) -> Run:
-    """The run with the least time, with the least memory of all."""
+    """Returns the first run with the least time, but with the least memory of all runs. There has to be a run."""
     best = min(runs, key=lambda it: it.seconds)
     return best._replace(megabytes=min(it.megabytes for it in runs))
 
 
 def positive(text: str) -> int:
-    """A number above 0."""
+    """Returns the whole number above 0 that the text means. Raises ArgumentTypeError or ValueError for any other text."""
     if not text.isdigit() or int(text) == 0:
         raise argparse.ArgumentTypeError(f"{text} isn't a number above 0")
     return int(text)
 
 
 def load() -> str:
-    """How busy the machine was in the last minute."""
+    """Returns words for how busy the machine is: its number of processors, and its load in the last minute."""
     return f"{os.cpu_count()} processors, load {os.getloadavg()[0]:.1f}"
 
 
 def shortened(text: str, most: int) -> str:
-    """The text, cut in its middle where it has more characters than that."""
+    """Returns the text or, if it has more than `most` characters, its beginning and its end with " .. " between them.
+
+    That has at most `most` characters, a number from 6.
+    """
     if len(text) <= most:
         return text
     half = (most - 4) // 2
@@ -98,7 +115,7 @@ def shortened(text: str, most: int) -> str:
 
 
 def table(head: Sequence[str], rows: Sequence[Sequence[str]]) -> List[str]:
-    """A table in Markdown, its columns padded; all columns but the first are set to the right."""
+    """Returns the lines of a table in Markdown, its columns padded; all columns except the first are aligned to the right."""
     whole: List[Sequence[str]] = [head, *rows]
     widths = [max(len(it[at]) for it in whole) for at in range(len(head))]
     lines = ["| " + " | ".join(_cell(it[at], widths[at], at) for at in range(len(head))) + " |" for it in whole]
@@ -107,4 +124,5 @@ def table(head: Sequence[str], rows: Sequence[Sequence[str]]) -> List[str]:
 
 
 def _cell(text: str, width: int, at: int) -> str:
+    """Returns the text of a cell, padded to `width` characters; `at` is the number of its column, from 0."""
     return text.ljust(width) if at == 0 else text.rjust(width)

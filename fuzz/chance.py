@@ -1,4 +1,4 @@
-"""Random bytes, words and patterns. The same seed gives the same, with each version of Python."""
+"""Random bytes, words and patterns. The same seed gives the same ones in every version of Python."""
 from __future__ import annotations
 
 import json
@@ -30,29 +30,33 @@ STRANGE = [
 
 
 class Chance:
-    """A source of chance for one case."""
+    """A source of chance for one case. The same target, seed and number give the same case."""
 
     def __init__(self, target: str, seed: int, number: int) -> None:
+        """Takes the name of the target, the seed, and the number of the case."""
         self.random = random.Random("%s %d %d" % (target, seed, number))
 
     def one(self, of: int) -> bool:
-        """True once in `of` times."""
+        """Returns True with a chance of one in `of`, a number from 1, otherwise False."""
         return self.random.randrange(of) == 0
 
     def below(self, most: int) -> int:
-        """A number from 0 on, below another; 0 below 1."""
+        """Returns a random whole number from 0 to `most` - 1, or 0 if `most` is below 1."""
         return self.random.randrange(max(most, 1))
 
     def pick(self, items: Sequence[Item]) -> Item:
-        """One of these."""
+        """Returns a random one of the items, of which there has to be one."""
         return items[self.random.randrange(len(items))]
 
     def some(self, items: Sequence[Item], most: int) -> List[Item]:
-        """At most `most` of these, with repeats."""
+        """Returns a list of up to `most` random items, which may repeat."""
         return [self.pick(items) for _ in range(self.below(most + 1))]
 
     def pattern(self, depth: int = 3) -> str:
-        """A pattern, mostly one that relint judges."""
+        """Returns a random pattern, mostly one that relint judges, with groups at most `depth` deep.
+
+        If `depth` is 3, one in eight has a strange piece put in, such as a lone bracket.
+        """
         branches = []
         for _ in range(self.pick([1, 1, 1, 2, 3])):
             branches.append("".join(self._piece(depth) for _ in range(self.below(4))))
@@ -63,25 +67,34 @@ class Chance:
         return whole
 
     def _piece(self, depth: int) -> str:
+        """Returns a random guard, or a random atom with or without a quantifier, with groups at most `depth` deep."""
         if self.one(15):
             return self.pick(GUARDS)
         atom = self.pick(ATOMS) if depth == 0 or self.one(2) else self.pick(OPENINGS) + self.pattern(depth - 1) + ")"
         return atom + self.pick(COUNTS)
 
     def changed(self, data: bytes, tokens: Sequence[bytes]) -> bytes:
-        """These bytes with some changes."""
+        """Returns the bytes with one to four random changes, each of which may put in one of the tokens or change nothing."""
         for _ in range(1 + self.below(4)):
             data = self._changed_once(data, tokens)
         return data
 
     def _changed_once(self, data: bytes, tokens: Sequence[bytes]) -> bytes:
+        """Returns the bytes with a random piece of them, perhaps an empty one, replaced or left out.
+
+        It is replaced by what `_token` gives, by two or more copies of itself, or by another piece.
+        """
         start = self.below(len(data) + 1)
         end = min(len(data), start + self.pick([0, 1, 1, 2, 5, 20, 200]))
         new = self.pick([self._token(tokens), data[start:end] * self.pick([0, 2, 3, 50]), self._piece_of(data), b""])
         return data[:start] + new + data[end:]
 
     def changed_json(self, data: bytes) -> bytes:
-        """JSON with one of its values, or of its keys, another."""
+        """Returns the JSON, an object or a list, as one line with its line end, mostly with one value changed.
+
+        The value is replaced, left out of an object, or doubled in a list; in an empty object or list nothing is changed.
+        Raises ValueError if the bytes aren't JSON.
+        """
         whole = json.loads(data)
         place = whole
         for _ in range(1 + self.below(5)):
@@ -96,6 +109,10 @@ class Chance:
         return json.dumps(whole, sort_keys=True, separators=(",", ":")).encode("ascii") + b"\n"
 
     def _change_value(self, place: Any, key: Any, value: Any) -> None:
+        """Changes the item `key` of `place`, a dict or a list; its value is `value`.
+
+        Leaves it out of a dict, doubles it in a list, or replaces its value by one of VALUES.
+        """
         kind = self.below(4)
         if kind == 0 and isinstance(place, dict):
             del place[key]
@@ -105,6 +122,7 @@ class Chance:
             place[key] = self.pick(VALUES)
 
     def _token(self, tokens: Sequence[bytes]) -> bytes:
+        """Returns one of BYTES, one of NUMBERS, any one byte, or one of the tokens, of which there has to be one."""
         kind = self.below(4)
         if kind == 0:
             return self.pick(BYTES)
@@ -115,10 +133,11 @@ class Chance:
         return self.pick(tokens)
 
     def _piece_of(self, data: bytes) -> bytes:
+        """Returns a random piece of the bytes, of at most 39 bytes; it may be empty."""
         start = self.below(len(data) + 1)
         return data[start:start + self.below(40)]
 
 
 def corpus(target: str) -> List[bytes]:
-    """The files that are kept for a target, in the order of their names."""
+    """Returns the contents of the files that are kept for a target, in the order of their names; [] if there are none."""
     return [it.read_bytes() for it in sorted((CORPUS / target).glob("*")) if it.is_file()]

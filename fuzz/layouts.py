@@ -13,7 +13,7 @@ UNJUDGED = ("refused", "unreadable", "too-deep-folder", "not-plain")
 
 
 def message(entry: Dict[str, Any]) -> str:
-    """What the other layouts say of an entry of the JSON report, behind its place."""
+    """Returns what the other layouts say of an entry of the JSON report, after its place."""
     kind = entry["kind"]
     words = {"degree": "degree %s" % entry.get("degree"), "undecided": "undecided %s over %s" % (entry.get("limit"),
              entry.get("over")), "refused": "refused %s" % entry.get("cause")}.get(kind, kind)
@@ -23,18 +23,18 @@ def message(entry: Dict[str, Any]) -> str:
 
 
 def head(entry: Dict[str, Any]) -> str:
-    """The first line of an entry, as the text and the brief layout have it."""
+    """Returns the first line of an entry, as the text layout and the brief layout have it."""
     place = ":%d:%d" % (entry["line"], entry["column"]) if "line" in entry else ""
     return "%s%s: %s" % (entry["path"], place, message(entry))
 
 
 def is_finding(entry: Dict[str, Any], most: int) -> bool:
-    """Whether an entry is a finding, with this highest degree that is none."""
+    """Returns whether an entry is a finding, if `most` is the highest degree that is none (--max-degree)."""
     return entry["kind"] == "exponential" or (entry["kind"] == "degree" and int(entry["degree"]) > most)
 
 
 def whole(ran: Ran) -> Dict[str, Any]:
-    """The JSON report of a run. Raises Wrong."""
+    """Returns the JSON report of a run. Raises Wrong if standard output isn't one line with a JSON object."""
     try:
         found = json.loads(ran.text())
     except ValueError as error:
@@ -45,14 +45,20 @@ def whole(ran: Ran) -> Dict[str, Any]:
 
 
 def counts(report: Dict[str, Any], most: int) -> Tuple[int, int, int, int]:
-    """What the last line has to say of a report."""
+    """Returns what the last line has to say of a report: the numbers of entries, findings, refused and undecided ones.
+
+    All entries of UNJUDGED count as refused. `most` is the highest degree that is no finding.
+    """
     entries = report["entries"]
     return (len(entries), sum(is_finding(it, most) for it in entries), sum(it["kind"] in UNJUDGED for it in entries),
             sum(it["kind"] == "undecided" for it in entries))
 
 
 def same_in_all(runner: Runner, words: List[str], most: int) -> Dict[str, Any]:
-    """Runs check in each layout, and returns the JSON report. Raises Wrong where one says something else."""
+    """Runs `relint check` with these words in each layout, and returns the JSON report.
+
+    Raises Wrong if a layout says something else. If relint refuses the words, the report has no entries and no other keys.
+    """
     runs = {it: runner.run(["check", "--format", it, *words]) for it in ("text", "brief", "json", "sarif")}
     ran = runs["json"]
     for other in runs.values():
@@ -72,12 +78,17 @@ def same_in_all(runner: Runner, words: List[str], most: int) -> Dict[str, Any]:
 
 
 def _same_status(ran: Ran, report: Dict[str, Any], counted: Tuple[int, int, int, int]) -> None:
+    """Raises Wrong unless the status is 3 if an entry is unreadable, otherwise 1 if `counted` has findings, otherwise 0."""
     unread = any(it["kind"] == "unreadable" for it in report["entries"])
     wanted = 3 if unread else 1 if counted[1] else 0
     ran.need(ran.status == wanted, "the status has to be %d" % wanted)
 
 
 def _same_text(ran: Ran, heads: List[str], counted: Tuple[int, int, int, int], is_long: bool) -> None:
+    """Raises Wrong unless the run wrote these first lines of entries and these counts.
+
+    `is_long` says that the layout is text, which has more lines for an entry, each indented.
+    """
     text = ran.text()
     lines = text.split("\n")[:-1]
     last = COUNTS.fullmatch(lines[-1] + "\n")
@@ -89,6 +100,7 @@ def _same_text(ran: Ran, heads: List[str], counted: Tuple[int, int, int, int], i
 
 
 def _same_sarif(ran: Ran, entries: List[Dict[str, Any]], most: int) -> None:
+    """Raises Wrong unless the results of the SARIF report are these entries, without degrees up to `most`."""
     results = whole(ran)["runs"][0]["results"]
     wanted = [(it["kind"], message(it)) for it in entries if it["kind"] != "degree" or is_finding(it, most)]
     found = [(it["ruleId"], it["message"]["text"]) for it in results]

@@ -19,12 +19,16 @@ OF_MEMORY = 5
 
 
 class Wrong(Exception):
-    """What came isn't what has to come; the message says how."""
+    """Raised if a program or a reader did something else than it has to; the message says what."""
 
 
 @dataclass(frozen=True)
 class Ran:
-    """How a run ended (below 0 if a signal ended it), and what it wrote."""
+    """How a run ended, and what it wrote.
+
+    `words` are the words that it was given. `status` is below 0 if a signal ended it: then it is the number of the signal with
+    a minus. `out` and `err` are its standard output and standard error, and `megabytes` the most memory that it held.
+    """
 
     words: Sequence[str]
     status: int
@@ -33,33 +37,37 @@ class Ran:
     megabytes: float
 
     def text(self) -> str:
-        """Standard output as text. Raises Wrong."""
+        """Returns standard output as text. Raises Wrong if it isn't UTF-8."""
         try:
             return self.out.decode("utf-8")
         except UnicodeDecodeError as error:
             raise Wrong("standard output isn't UTF-8: %s" % error) from None
 
     def need(self, holds: bool, what: str) -> None:
-        """Raises Wrong with what the run did, unless it holds."""
+        """Raises Wrong, with what the run did, unless it `holds`; `what` says what is wrong."""
         if not holds:
             raise Wrong("%s\n  words %r\n  status %d, standard output %r, standard error %r"
                         % (what, list(self.words)[:12], self.status, self.out[:400], self.err[:400]))
 
 
 class Runner:
-    """Runs relint in a scratch folder of its own."""
+    """Runs relint in a scratch folder."""
 
     def __init__(self, program: str, folder: Path) -> None:
+        """Takes the path of relint, and the folder."""
         self.program = program
         self.folder = folder
 
     def put(self, name: str, data: bytes) -> str:
-        """Writes a file of the folder, and returns its name."""
+        """Writes a file into the folder, in place of any that has this name, and returns its name."""
         (self.folder / name).write_bytes(data)
         return name
 
     def run(self, words: Sequence[str]) -> Ran:
-        """Runs relint with these words, and checks what holds for every run. Raises Wrong."""
+        """Runs relint with these words in the folder, and returns how it ended and what it wrote.
+
+        Raises Wrong if the run doesn't do what `_check` demands of every run, or if the words have a byte 0.
+        """
         with tempfile.TemporaryFile() as out, tempfile.TemporaryFile() as err:
             try:
                 begun = subprocess.Popen([self.program, *words], cwd=str(self.folder), stdin=subprocess.DEVNULL, stdout=out,
@@ -77,6 +85,7 @@ class Runner:
 
 
 def _limit(pid: int) -> None:
+    """Limits the processor time and the memory of a process, unless it has ended."""
     try:
         resource.prlimit(pid, resource.RLIMIT_CPU, (SECONDS, SECONDS))
         resource.prlimit(pid, resource.RLIMIT_AS, (ROOM, ROOM))
@@ -85,7 +94,11 @@ def _limit(pid: int) -> None:
 
 
 def _check(ran: Ran) -> None:
-    """What holds for every run: a documented status, and of the two outputs what goes with it. Raises Wrong."""
+    """Raises Wrong unless the status is one from 0 to 6 other than OF_MEMORY, and the memory at most MEGABYTES.
+
+    Raises it too if standard output isn't empty and has no line end at its end. With the status 0 or 1, it mustn't be empty,
+    and standard error has to be empty; with 2, it has to be empty, and standard error a message.
+    """
     ran.need(0 <= ran.status <= 6, "a status that no page has (-24: over %d s of processor time)" % SECONDS)
     ran.need(ran.status != OF_MEMORY, "out of memory with %d MB" % (ROOM // 1_000_000))
     ran.need(ran.megabytes <= MEGABYTES, "it takes %d MB" % ran.megabytes)
@@ -98,19 +111,22 @@ def _check(ran: Ran) -> None:
 
 
 def _is_message(err: bytes) -> bool:
-    """Whether standard error is one line of relint, or the usage text."""
+    """Returns whether standard error is one line that begins with "relint: ", or begins with USAGE."""
     text = err.decode("utf-8", "replace")
     return text.startswith(USAGE) or (text.startswith("relint: ") and text.count("\n") == 1 and text.endswith("\n"))
 
 
 def alike(one: Ran, other: Ran, what: str) -> None:
-    """Raises Wrong unless two runs answered the same."""
+    """Raises Wrong unless two runs gave the same status and wrote the same; `what` says what is wrong then."""
     other.need((one.status, one.out, one.err) == (other.status, other.out, other.err),
                "%s: the first answered status %d, %r, %r" % (what, one.status, one.out[:300], one.err[:300]))
 
 
 def found_program(named: str, top: Path) -> str:
-    """The program to test: the one that is named, else the one that was built here, else that of the release."""
+    """Returns the absolute path of the program to test: `named` or, if that is "", the first that was built or released.
+
+    `top` is the top of the repository. Ends this program with a message if that isn't there or can't be run.
+    """
     built = [top / "crates/relint/out/relint", top / "release/relint", top / "release" / platform.machine() / "relint"]
     places: List[Path] = [Path(named)] if named else built
     for place in places:

@@ -18,7 +18,7 @@ ANSWERS = {
 
 
 def _question(chance: Chance) -> Dict[str, Any]:
-    """A question, mostly a right one about two patterns that are near each other."""
+    """Returns a random question, as an object of JSON: mostly a right one, and mostly about two patterns near each other."""
     first = chance.pattern()
     near = chance.changed(first.encode("utf-8"), [b"a", b"(", b")", b"*", b"?", b"|"]).decode("utf-8", "replace")
     made: Dict[str, Any] = {"first": first, "second": chance.pick([chance.pattern(), near, near])}
@@ -32,7 +32,11 @@ def _question(chance: Chance) -> Dict[str, Any]:
 
 
 def spans(runner: Runner, chance: Chance, kept: Optional[bytes]) -> None:
-    """Each line has one answer of a known form; asked the other way round, a pair has the mirrored answer."""
+    """Each line has one answer of a known form; asked the other way round, a pair has the same word.
+
+    The lines are those of `kept`, or random ones if it is None; `runner` isn't used. Does nothing if there is no program
+    relint-spans. Raises Wrong.
+    """
     tested = tested_spans()
     if tested is None:
         return
@@ -49,7 +53,11 @@ def spans(runner: Runner, chance: Chance, kept: Optional[bytes]) -> None:
 
 
 def _asked(program: str, lines: List[bytes]) -> List[Dict[str, Any]]:
-    """The answers to these lines. Raises Wrong."""
+    """Returns the answers of relint-spans to these lines.
+
+    Raises Wrong if it isn't done in time, has another status than 0, writes to standard error, or doesn't give one answer of a
+    known form for each line; ValueError if an answer isn't JSON.
+    """
     given = b"".join(it + b"\n" for it in lines)
     try:
         ran = subprocess.run([program, "-"], input=given, stdout=subprocess.PIPE, stderr=subprocess.PIPE, timeout=SECONDS * 10)
@@ -66,7 +74,10 @@ def _asked(program: str, lines: List[bytes]) -> List[Dict[str, Any]]:
 
 
 def _asked_mirrored(program: str, lines: List[bytes], answers: List[Dict[str, Any]]) -> None:
-    """Asks each pair that was compared the other way round: what is the same one way is the same the other way."""
+    """Asks each pair that was compared the other way round. Raises Wrong, unless the answer has the same word.
+
+    The limit may be exceeded the other way round.
+    """
     mirrored, wanted = [], []
     for line, answer in zip(lines, answers):
         if answer["answer"] in ("same", "differ"):

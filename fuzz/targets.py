@@ -1,7 +1,7 @@
 """The targets: each makes a case from chance, gives it to the program or to a tool, and judges what comes.
 
 A target is a function that takes a `Runner` and a `Chance`, and the bytes of a kept file, or None for a case of its own. It
-raises `Wrong` where what comes isn't what has to come.
+raises `Wrong` if what comes isn't what has to come. Its docstring says what has to come.
 """
 from __future__ import annotations
 
@@ -47,7 +47,10 @@ TOML_TOKENS = [it.encode() for it in (
 
 
 def words(runner: Runner, chance: Chance, kept: Optional[bytes]) -> None:
-    """Words of the command line: class, cost, compare, prove and sample, in each mode, with options that are right or not."""
+    """Words of the command line: each run ends as `Runner.run` demands, and answers that go together agree.
+
+    The subcommands are given options that are right or not. The words of a kept file are its lines; they are only run.
+    """
     if kept is not None:
         runner.run(kept.decode("utf-8").split("\n"))
         return
@@ -56,7 +59,10 @@ def words(runner: Runner, chance: Chance, kept: Optional[bytes]) -> None:
 
 
 def _class(runner: Runner, chance: Chance, pattern: str, mode: str) -> None:
-    """The class, its status, and the kind of its certificate."""
+    """Checks that `class` has the status of its answer, and that a certificate that `prove` gives is of the same class.
+
+    If the pattern is refused, both have to refuse it alike. Raises Wrong.
+    """
     most = chance.below(4)
     ran = runner.run(["class", "--mode", mode, "--max-degree", str(most), "--", pattern])
     proved = runner.run(["prove", "--mode=" + mode, "--", pattern])
@@ -73,7 +79,10 @@ def _class(runner: Runner, chance: Chance, pattern: str, mode: str) -> None:
 
 
 def _cost(runner: Runner, chance: Chance, pattern: str, mode: str) -> None:
-    """The steps of a text, by two ways of giving the words."""
+    """Checks that `cost` answers the same to words written in two ways. Raises Wrong.
+
+    With status 0, the answer has to begin with "steps" or "undecided".
+    """
     text = "".join(chance.some(string.ascii_letters[:3] + "01 é\n", 12))
     ran = runner.run(["cost", "--mode", mode, "--", pattern, text])
     other = runner.run(["cost", "--mode=" + mode, "--max-degree=0", "--", pattern, text])
@@ -84,7 +93,10 @@ def _cost(runner: Runner, chance: Chance, pattern: str, mode: str) -> None:
 
 
 def _compare(runner: Runner, chance: Chance, pattern: str, mode: str) -> None:
-    """Two patterns, and the same the other way round."""
+    """Checks that `compare` gives the mirrored answer if two patterns are exchanged, and the status of its answer.
+
+    Nothing is checked if neither answer is one of MIRRORED. Raises Wrong.
+    """
     near = chance.changed(pattern.encode("utf-8"), [it.encode("utf-8") for it in STRANGE])
     other = chance.pattern() if chance.one(2) else near.decode("utf-8", "replace").replace("\0", "0")
     options = ["compare", "--mode", mode, "--"]
@@ -96,7 +108,7 @@ def _compare(runner: Runner, chance: Chance, pattern: str, mode: str) -> None:
 
 
 def _any_words(runner: Runner, chance: Chance, pattern: str, _: str) -> None:
-    """Words that are mostly no valid call."""
+    """Checks that words which are mostly no valid call are answered the same twice. Raises Wrong."""
     action = chance.pick(["class", "cost", "compare", "prove", "verify", "sample", "check", "chec", ""])
     parts = ["--mode", "match", "--mode=search", "--max-pairs=" + chance.pick(NUMBERS), "--report", "2", "--", "-", "", "-x",
              "--settings", "none", "--baseline=none", "--format=json", pattern, "a" * chance.below(30_000), "none.py"]
@@ -105,7 +117,7 @@ def _any_words(runner: Runner, chance: Chance, pattern: str, _: str) -> None:
 
 
 def _made_source(chance: Chance) -> bytes:
-    """A source with calls of re, mostly right ones."""
+    """Returns a random source with calls of `re`, mostly right ones."""
     lines = [chance.pick(["import re", "import re as r", "from re import compile as c, match", "import os, re"])]
     for _ in range(1 + chance.below(5)):
         name = chance.pick(["re.", "r.", ""]) + chance.pick(CALLS)
@@ -130,7 +142,10 @@ def sources(runner: Runner, chance: Chance, kept: Optional[bytes]) -> None:
 
 
 def _read_by_tools(runner: Runner, data: bytes, report: Dict[str, Any]) -> None:
-    """The package's readers of reports and of sources take what the program wrote, and find each judged pattern."""
+    """Checks that the package's reader of reports reads the report, and its reader of sources the source.
+
+    A source with a judged pattern has to be readable. Raises Wrong.
+    """
     reports, sites = importlib.import_module("relint.reports"), importlib.import_module("relint.sites")
     if "version" not in report:
         return
@@ -149,10 +164,12 @@ def _read_by_tools(runner: Runner, data: bytes, report: Dict[str, Any]) -> None:
 
 
 def _outcome(entry: Dict[str, Any]) -> str:
+    """Returns what a report in the brief layout says of an entry, without its place and call."""
     return head({**entry, "path": "", "call": "x"}).split("x: ", 1)[1]
 
 
 def _made_settings(chance: Chance) -> bytes:
+    """Returns a random settings file of up to three lines, with values that are right or not."""
     lines = ["compile-as = '%s'" % chance.pick(MODES), "max-degree = %s" % chance.pick(NUMBERS[:14]),
              "max-pairs = %s" % chance.pick(NUMBERS[:14]), 'format = "%s"' % chance.pick(["text", "json", "x"]),
              "report = %d" % chance.below(4)]
@@ -160,7 +177,7 @@ def _made_settings(chance: Chance) -> bytes:
 
 
 def settings(runner: Runner, chance: Chance, kept: Optional[bytes]) -> None:
-    """Settings: a file does what the same options do, or is refused; and what TOML's reader refuses is refused."""
+    """Settings: a file does what the same options do, or is refused; and what a reader of TOML refuses is refused."""
     data = kept
     if data is None:
         data = _made_settings(chance) if chance.one(2) else chance.pick(corpus("settings"))
@@ -179,7 +196,10 @@ UNKNOWN = ["?"]
 
 
 def _options_of(data: bytes) -> Optional[List[str]]:
-    """The options that say what a settings file says, None where it is no such file, UNKNOWN without a reader of TOML."""
+    """Returns the options that say what a settings file says.
+
+    Returns None if it isn't a valid settings file, and UNKNOWN if this Python has no reader of TOML.
+    """
     try:
         reader = importlib.import_module("tomllib")
     except ImportError:
@@ -201,8 +221,10 @@ def _options_of(data: bytes) -> Optional[List[str]]:
 
 
 def baselines(runner: Runner, chance: Chance, kept: Optional[bytes]) -> None:
-    """Baselines: an entry is hidden exactly if the baseline has one left with the same path, call, kind, and degree, limit or
-    cause."""
+    """Baselines: as many entries are hidden as the baseline has to hide, as `_hidden` counts them.
+
+    An entry of the baseline hides at most one entry, one that has the same `_key`.
+    """
     runner.put("source.py", _made_source(chance))
     whole_report = runner.run(["check", "--format", "json", "source.py"])
     if kept is not None:
@@ -228,12 +250,15 @@ def baselines(runner: Runner, chance: Chance, kept: Optional[bytes]) -> None:
 
 
 def _key(entry: Dict[str, Any]) -> str:
-    """What makes two entries the same for a baseline."""
+    """Returns what makes two entries the same for a baseline: the path, the call, the kind, and the degree, limit or cause."""
     return json.dumps([entry.get(it) for it in ("path", "call", "kind", "degree", "limit", "cause")])
 
 
 def _known(data: bytes) -> Optional[List[str]]:
-    """The keys of a baseline, None where Python reads it in another way than strictly."""
+    """Returns the keys of the entries of a baseline.
+
+    Returns None if it isn't strict JSON with such entries: then relint and Python may read it differently.
+    """
     try:
         found = json.loads(data.decode("utf-8"), parse_constant=_no_constant, object_pairs_hook=_no_repeats)
         return [_key(it) for it in found["entries"]]
@@ -242,16 +267,19 @@ def _known(data: bytes) -> Optional[List[str]]:
 
 
 def _no_constant(text: str) -> Any:
+    """Always raises ValueError; `json.loads` calls it for the constants NaN and Infinity, which strict JSON doesn't have."""
     raise ValueError(text)
 
 
 def _no_repeats(pairs: List[Tuple[str, Any]]) -> Dict[str, Any]:
+    """Returns the dict of these pairs. Raises ValueError if a key comes twice."""
     if len({key for key, _ in pairs}) != len(pairs):
         raise ValueError("a key is there twice")
     return dict(pairs)
 
 
 def _hidden(entries: List[Dict[str, Any]], known: List[str]) -> int:
+    """Returns how many of the entries a baseline with the keys `known` has to hide; each key hides at most one."""
     left = list(known)
     count = 0
     for it in entries:
@@ -262,7 +290,10 @@ def _hidden(entries: List[Dict[str, Any]], known: List[str]) -> int:
 
 
 def certificates(runner: Runner, chance: Chance, kept: Optional[bytes]) -> None:
-    """Certificates: what prove makes holds; what holds, though it was changed, says the class that the pattern has."""
+    """Certificates: what `prove` makes holds; a changed one, or a kept one, says the class that the pattern has if it holds.
+
+    Nothing is checked if `prove` makes none for the pattern.
+    """
     pattern, mode = chance.pattern(2), chance.pick(MODES)
     made = runner.run(["prove", "--mode", mode, "--", pattern])
     if made.status != 0 or not made.out.startswith(b"{"):
@@ -282,7 +313,7 @@ def certificates(runner: Runner, chance: Chance, kept: Optional[bytes]) -> None:
 
 
 def _changed_certificate(chance: Chance, made: Ran) -> bytes:
-    """A certificate with a number, a list or some bytes of it changed."""
+    """Returns the certificate that a run made, mostly with some of its bytes or one of its values changed."""
     kind = chance.below(3)
     if kind < 2:
         return chance.changed(made.out, JSON_TOKENS) if kind else chance.changed_json(made.out)
@@ -298,7 +329,7 @@ def _changed_certificate(chance: Chance, made: Ran) -> bytes:
 
 
 def reports(runner: Runner, chance: Chance, kept: Optional[bytes]) -> None:
-    """Reports, for the package's reader: it takes one or says in its own error why not, and nothing else comes of it."""
+    """Reports, for the package's reader: it takes one, or raises its own error of one line, and nothing else."""
     data = kept
     if data is None:
         data = _changed_report(chance)
@@ -316,12 +347,17 @@ def reports(runner: Runner, chance: Chance, kept: Optional[bytes]) -> None:
 
 
 def _changed_report(chance: Chance) -> bytes:
+    """Returns a random one of the reports that are kept, mostly with a random change."""
     data = chance.pick(corpus("reports"))
     return chance.changed(data, JSON_TOKENS) if chance.one(3) else chance.changed_json(data)
 
 
 def tools(runner: Runner, chance: Chance, kept: Optional[bytes]) -> None:
-    """Reports, for the tools: each ends with a status of its page, writes no traceback, and nothing that a terminal obeys."""
+    """Reports, for a random one of TOOLS: it ends within a minute with a status from 0 to 5, and writes no traceback.
+
+    It mustn't take more than MEGABYTES, and mustn't write what a terminal obeys to standard error, nor to standard output if
+    it is `show` or `confirm`. RELINT is set in the environment of this process.
+    """
     data = _changed_report(chance) if kept is None else kept
     for name in ("plain", "names", "refusals", "version-2"):
         runner.put(name + ".py", chance.pick(corpus("sources")))
@@ -345,11 +381,12 @@ def tools(runner: Runner, chance: Chance, kept: Optional[bytes]) -> None:
 
 @functools.lru_cache(maxsize=None)
 def _loaded() -> Dict[str, Any]:
+    """Returns the tools, loaded once for all cases, as `forks.run` takes them."""
     return forks.load(str(TOP / "python"))
 
 
 def _use(entry: Any) -> None:
-    """What each tool does first with an entry: none of it may fail."""
+    """Does what tools do first with an entry. Raises Wrong if any of it fails."""
     try:
         entry.outcome()
         entry.is_finding(2)

@@ -20,7 +20,10 @@ from distributed import Client
 
 
 def check_list(names: bytes) -> bytes:
-    """Runs on a worker: returns the report in JSON on the paths of a list."""
+    """Returns relint's report in JSON on the paths of a list, whose content is `names`; this runs on a worker.
+
+    Raises RuntimeError if relint-many ends with another status than 0, 1 or 3, and OSError if it can't be run.
+    """
     words = ["relint-many", "--jobs", "1", "--format", "json", "--from", "-"]
     done = subprocess.run(words, input=names, stdout=subprocess.PIPE, check=False)
     if done.returncode not in (0, 1, 3):
@@ -29,14 +32,22 @@ def check_list(names: bytes) -> bytes:
 
 
 def lists_of(paths: List[str], folder: Path) -> List[bytes]:
-    """Returns the lists that the files of the paths are split into."""
+    """Splits the files below the paths into lists with relint-many, and returns the content of each list.
+
+    The lists are written below `folder`. LISTS in the environment is their number, 100 if it isn't set. Raises
+    CalledProcessError if relint-many fails, and OSError if it can't be run.
+    """
     words = ["relint-many", "--list", os.environ.get("LISTS", "100"), "--into", str(folder / "lists"), "--", *paths]
     named = subprocess.run(words, stdout=subprocess.PIPE, check=True).stdout
     return [Path(os.fsdecode(it)).read_bytes() for it in named.splitlines()]
 
 
 def main() -> int:
-    """Splits, has the workers judge, and joins."""
+    """Splits the files into lists, has the workers judge the lists, and writes the joined report to standard output.
+
+    Returns the exit status of `relint-many --join`, or 2 if the command line has no scheduler or no PATH. If a list fails, it
+    is tried twice more; then the error of its last try is raised.
+    """
     if len(sys.argv) < 3:
         print("usage: with_dask.py SCHEDULER PATH..", file=sys.stderr)
         return 2

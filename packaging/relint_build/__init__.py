@@ -1,7 +1,10 @@
-"""Builds the wheel and the sdist of relint: a build backend (PEP 517, PEP 660) on Python's standard library alone.
+"""Builds the wheel and the sdist of relint: a build backend (PEP 517, PEP 660) that needs only Python's standard library.
 
-A wheel holds the programs of release/ for one machine as they are, the Python package python/relint with its commands, the man
-page, and what says where the programs come from.
+Before Python 3.11 it also needs tomli, to read TOML. A wheel has the unchanged programs of release/ for one machine, the
+Python package python/relint with its commands, the man page, and the documents that say where the programs come from. An
+`Entry` is a file of an archive. The hooks, which are the functions with the argument `config_settings`, are called by pip and
+other installers; they don't use it. To end the build is to do what `stop` does. If a file of the repository can't be read,
+OSError is raised.
 """
 from __future__ import annotations
 
@@ -30,13 +33,16 @@ COMPLETIONS = {
 
 
 def stop(why: Refusal) -> NoReturn:
-    """Ends the build with one line, and no traceback."""
+    """Prints `why` in one line to standard error, and raises SystemExit with the status 1."""
     print(f"relint: {why}", file=sys.stderr)
     raise SystemExit(1)
 
 
 def checked_programs(machine: str = "") -> Programs:
-    """The programs of release/ for a machine, or for the one at hand. Ends the build if they can't be installed."""
+    """Returns the programs of release/ for a machine, or for the one that this Python is for if `machine` is "".
+
+    Ends the build if one of them is missing or damaged, or if release/ wasn't built from the sources as they are.
+    """
     try:
         programs = read_programs(TOP, machine or machine_here())
         check_release(TOP)
@@ -46,7 +52,10 @@ def checked_programs(machine: str = "") -> Programs:
 
 
 def about(project: Project, programs: Programs) -> List[Entry]:
-    """The files of the dist-info folder, without RECORD."""
+    """Returns the files of the wheel's folder `dist-info`, except RECORD; entry_points.txt is left out if it has no text.
+
+    Besides the files of COPIED, these are METADATA and WHEEL, made from `project` and the tags of `programs`.
+    """
     folder = f"{project.full_name}.dist-info"
     tags = "".join(f"Tag: {it}\n" for it in programs.tags)
     wheel = f"Wheel-Version: 1.0\nGenerator: relint_build\nRoot-Is-Purelib: false\n{tags}"
@@ -56,7 +65,10 @@ def about(project: Project, programs: Programs) -> List[Entry]:
 
 
 def data(project: Project, programs: Programs) -> List[Entry]:
-    """What the installer puts outside of the Python packages: the programs, the man page, and completions for shells."""
+    """Returns the files that an installer puts outside of the Python packages: programs, man page, completions for shells.
+
+    The programs are those of `programs`. The man page and the completions are left out if the repository doesn't have them.
+    """
     folder = f"{project.full_name}.data"
     entries = [Entry(f"{folder}/scripts/{it}", content, is_program=True) for it, content in programs.contents.items()]
     if (TOP / MAN_PAGE).is_file():
@@ -68,7 +80,10 @@ def data(project: Project, programs: Programs) -> List[Entry]:
 
 
 def modules() -> List[Entry]:
-    """The files of the Python package, and the pages, which lie in the folder `docs` of the package."""
+    """Returns the files of the Python package, and the pages docs/*.md, which get the folder `docs` in the package.
+
+    Ends the build if there is no file that may be packed.
+    """
     names = listed()
     package = [it for it in names if it.startswith("python/relint/")]
     found = [Entry(it.path[len("python/"):], it.content) for it in entries_of(TOP, package)]
@@ -77,7 +92,10 @@ def modules() -> List[Entry]:
 
 
 def listed() -> List[str]:
-    """The files that a wheel or an sdist may hold. Ends the build if they can't be told."""
+    """Returns the paths, relative to TOP and sorted, of the files of the repository that a wheel or an sdist may have.
+
+    Ends the build if there is no such file.
+    """
     names = files_of(TOP)
     if not names:
         stop(Refusal(f"no file may be packed: git tracks none here, and {LIST} names none"))
@@ -85,9 +103,10 @@ def listed() -> List[str]:
 
 
 def make_wheel(folder: str, contents: Optional[List[Entry]] = None, machine: str = "") -> str:
-    """Writes the wheel for a machine, or for the one at hand, and returns its name.
+    """Writes the wheel for a machine into `folder`, and returns its name; "" is the machine that this Python is for.
 
-    Given `contents`, it holds these files in place of the Python package.
+    If `contents` isn't None, the wheel has these files in place of the Python package and its pages. A file of that name is
+    replaced. Ends the build as `checked_programs` and `modules` do.
     """
     project, programs = read_project(TOP), checked_programs(machine)
     name = f"{project.full_name}-{programs.tag}.whl"
@@ -97,7 +116,10 @@ def make_wheel(folder: str, contents: Optional[List[Entry]] = None, machine: str
 
 
 def prepare_metadata_for_build_wheel(metadata_directory: str, config_settings: Settings = None) -> str:
-    """Writes the dist-info folder, and returns its name."""
+    """Writes the folder `dist-info` of the wheel, without RECORD, into `metadata_directory`, and returns the folder's name.
+
+    Ends the build as `checked_programs` does.
+    """
     project, programs = read_project(TOP), checked_programs()
     for entry in about(project, programs):
         file = Path(metadata_directory) / entry.path
@@ -107,17 +129,20 @@ def prepare_metadata_for_build_wheel(metadata_directory: str, config_settings: S
 
 
 def build_wheel(wheel_directory: str, config_settings: Settings = None, metadata_directory: Optional[str] = None) -> str:
-    """Writes the wheel, and returns its name."""
+    """Writes the wheel for this machine into `wheel_directory`, and returns its name; `metadata_directory` isn't used."""
     return make_wheel(wheel_directory)
 
 
 def build_editable(wheel_directory: str, config_settings: Settings = None, metadata_directory: Optional[str] = None) -> str:
-    """Writes a wheel whose Python package is the one of this folder, and returns its name. The programs in it are copies."""
+    """Writes a wheel that puts the folder python/ of this repository on Python's path in place of a copy; returns its name.
+
+    The programs in it are copies. `metadata_directory` isn't used.
+    """
     return make_wheel(wheel_directory, [Entry("relint-here.pth", f"{TOP / 'python'}\n".encode())])
 
 
 def build_sdist(sdist_directory: str, config_settings: Settings = None) -> str:
-    """Writes the sdist, and returns its name."""
+    """Writes the sdist into `sdist_directory`, and returns its name. It has all files that may be packed, and PKG-INFO."""
     project = read_project(TOP)
     name = f"{project.full_name}.tar.gz"
     entries = [it for it in entries_of(TOP, listed()) if it.path != "PKG-INFO"]
@@ -126,12 +151,12 @@ def build_sdist(sdist_directory: str, config_settings: Settings = None) -> str:
 
 
 def build_all(folder: str) -> List[str]:
-    """Writes the wheel for each machine and the sdist, on whatever machine, and returns their names."""
+    """Writes a wheel for each of MACHINES, in order, and the sdist into `folder`, and returns their names in this order."""
     return [*(make_wheel(folder, machine=it) for it in MACHINES), build_sdist(folder)]
 
 
 def get_requires_for_build_wheel(config_settings: Settings = None) -> List[str]:
-    """What a wheel needs to be built: nothing."""
+    """Returns the packages that have to be installed to build a wheel or an sdist, besides those in pyproject.toml: none."""
     return []
 
 

@@ -1,6 +1,8 @@
-"""What tools/release writes beside the programs: where they come from (in-toto, SLSA) and what they hold (CycloneDX).
+"""Writes two documents on the programs in release/: where they come from (in-toto, SLSA), and what is in them (CycloneDX).
 
-Both are JSON, and hang only on what they name: no time, no folder and no machine is in them.
+Both are JSON, without the time, the folder and the machine of the build. `top` is the top of the repository, and `kit` the
+folder of the kit, which has the tools and the crates that the programs are built with. `info` has the values of release/INFO
+by their keys; a function raises KeyError if one that it needs isn't there, and OSError if a file can't be read.
 """
 from __future__ import annotations
 
@@ -22,30 +24,36 @@ _LINKED = {
 
 
 def sum_of(file: Path) -> str:
-    """The SHA-256 of a file, in hexadecimal."""
+    """Returns the SHA-256 of a file, in hexadecimal."""
     return hashlib.sha256(file.read_bytes()).hexdigest()
 
 
 def files(top: Path, info: Dict[str, str]) -> Iterator[Tuple[str, str]]:
-    """The programs of release/, each with the sum that release/INFO gives."""
+    """Yields each program of `top` for each machine: its path from `top`, with the SHA-256 that `info` has for it.
+
+    Raises KeyError if `info` lacks a program. Whether the files are there isn't looked at.
+    """
     for machine in MACHINES:
         for program in programs_of(top):
             yield f"release/{machine}/{program}", info[f"{PROGRAMS[program]}program-{machine}"]
 
 
 def packages(info: Dict[str, str], machine: str) -> Dict[str, str]:
-    """The versions of the packages that a program was linked with, by their names."""
+    """Returns the versions of the Debian packages that the programs for a machine were linked with, by their names."""
     pairs = (it.partition("=") for it in info["packages-" + machine].split())
     return {name: version for name, _, version in pairs}
 
 
 def purl(name: str, version: str) -> str:
-    """The address of a Debian package, as package-url spells it."""
+    """Returns the package URL of a Debian package, such as "pkg:deb/debian/libc6-dev@2.36-9"; `+` and `:` are escaped."""
     return f"pkg:deb/debian/{name}@{version.replace('+', '%2B').replace(':', '%3A')}"
 
 
 def materials(top: Path, kit: Path, info: Dict[str, str]) -> Iterator[Dict[str, Any]]:
-    """What the programs were made from, each with its sum."""
+    """Yields what the programs were made from, as objects of JSON: crates, scripts, tools of the kit, and Debian packages.
+
+    Each has its SHA-256, except the packages, which have their package URLs.
+    """
     for program in programs_of(top):
         yield {"name": f"crates of {program}", "digest": {"sha256": info[f"{PROGRAMS[program]}sum"]},
                "annotations": {"how": f"tree_sum of release/tree.sh, over crates.txt and the crates that {program} uses"}}
@@ -59,7 +67,10 @@ def materials(top: Path, kit: Path, info: Dict[str, str]) -> Iterator[Dict[str, 
 
 
 def provenance(top: Path, kit: Path, room: Path, info: Dict[str, str]) -> Dict[str, Any]:
-    """The statement of in-toto whose predicate is SLSA's provenance."""
+    """Returns the statement of in-toto whose predicate is SLSA's provenance, as an object of JSON.
+
+    `room` has a file MACHINE/PROGRAM.verdict for each program, with the line that the verifier printed for it.
+    """
     verdicts = {f"{program}-{it}": (room / it / f"{program}.verdict").read_text(encoding="utf-8").strip()
                 for it in MACHINES for program in programs_of(top)}
     return {
@@ -82,7 +93,7 @@ def provenance(top: Path, kit: Path, room: Path, info: Dict[str, str]) -> Dict[s
 
 
 def kit_crates(top: Path, kit: Path) -> List[str]:
-    """The kit's crates that the crates of this repository use, and those below them."""
+    """Returns the names of the kit's crates that the programs use, directly or through other crates, sorted; `std` is one."""
     lines = [line.partition("#")[0] for line in (top / "crates.txt").read_text(encoding="utf-8").splitlines()]
     named = {name.strip(): rest.split() for name, _, rest in (line.partition(":") for line in lines)}
     left, found = {"std"}, set()
@@ -103,18 +114,22 @@ def kit_crates(top: Path, kit: Path) -> List[str]:
 
 
 def used_by(kit: Path, crate: str) -> Set[str]:
-    """The crates that a crate of the kit names."""
+    """Returns the names of the crates that a crate of the kit uses directly. Raises OSError if its library isn't there."""
     with (kit / "rlibs" / f"{crate}.rlib" / "format").open(encoding="utf-8") as lines:
         return {line.split()[1] for line in lines if line.startswith("dep ")}
 
 
 def licence(expression: str) -> List[Dict[str, Any]]:
-    """A licence, as CycloneDX spells it."""
+    """Returns the value of `licenses` in CycloneDX for a licence: an expression if it has a blank, otherwise a single name."""
     return [{"expression": expression}] if " " in expression else [{"license": {"id": expression}}]
 
 
 def kit_component(kit: Path, crate: str, version: str) -> Dict[str, Any]:
-    """A crate of the kit, with the licences whose texts are in its folder."""
+    """Returns the component of CycloneDX for a crate of the kit; `version` is the kit's.
+
+    Its licences are those whose texts are in the crate's folder. If `expression_of` doesn't know them, the files are named; if
+    there are none, there is no key `licenses`.
+    """
     component: Dict[str, Any] = {"type": "library", "bom-ref": f"kit/{crate}", "group": "rattle", "name": crate}
     component["version"] = version
     files = sorted(it.name for it in (kit / "rattle" / crate).glob("LICENSE*"))
@@ -127,14 +142,17 @@ def kit_component(kit: Path, crate: str, version: str) -> Dict[str, Any]:
 
 
 def expression_of(files: List[str]) -> str:
-    """The licence that the names of these files spell, "" if they don't: one for code, and with it that of Unicode's data."""
+    """Returns the licence that files with these names give, such as "MIT OR Apache-2.0"; "" if no name is known.
+
+    The licences of code are joined by OR, and the one of Unicode's data is added by AND.
+    """
     code = [_CODE[it] for it in files if it in _CODE]
     parts = [f"({' OR '.join(code)})" if len(code) > 1 and _DATA in files else " OR ".join(code)] if code else []
     return " AND ".join(parts + (["Unicode-3.0"] if _DATA in files else []))
 
 
 def linked(info: Dict[str, str]) -> Iterator[Dict[str, Any]]:
-    """What is linked into the programs of Debian's packages."""
+    """Yields the components of CycloneDX for what is linked into the programs from Debian's packages, machine by machine."""
     for machine in MACHINES:
         for package, version in packages(info, machine).items():
             for start, (name, terms) in _LINKED.items():
@@ -144,7 +162,7 @@ def linked(info: Dict[str, str]) -> Iterator[Dict[str, Any]]:
 
 
 def bill(top: Path, kit: Path, info: Dict[str, str]) -> Dict[str, Any]:
-    """The list of what the programs hold."""
+    """Returns the CycloneDX document on what is in the programs, as an object of JSON."""
     components = [kit_component(kit, it, info["kit"].split()[0]) for it in kit_crates(top, kit)] + list(linked(info))
     parts = [{"type": "file", "bom-ref": name, "name": name, "hashes": [{"alg": "SHA-256", "content": one}]}
              for name, one in files(top, info)]
@@ -156,12 +174,16 @@ def bill(top: Path, kit: Path, info: Dict[str, str]) -> Dict[str, Any]:
 
 
 def write(folder: Path, name: str, document: Dict[str, Any]) -> None:
-    """Writes a document as JSON that a person can read."""
+    """Writes a document as indented JSON to the file `name` in the folder, in place of what is there."""
     (folder / name).write_text(json.dumps(document, indent=2) + "\n", encoding="utf-8")
 
 
 def main(words: List[str]) -> int:
-    """Takes the top of the repository, the kit, the folder with the verdicts, and the folder to write to."""
+    """Writes provenance.json and sbom.cdx.json, and returns the exit status 0.
+
+    `words` are four paths: the top of the repository, the kit, the folder with the verdicts, and the folder to write to.
+    Raises ValueError if there are more or fewer.
+    """
     top, kit, room, to = map(Path, words)
     info = read_info(top / "release/INFO")
     write(to, "provenance.json", provenance(top, kit, room, info))

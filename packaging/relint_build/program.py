@@ -1,4 +1,7 @@
-"""The programs of release/: whether they are there, whole and of the sources, and which of them this machine runs."""
+"""Reads the programs in release/, and checks that they are there, undamaged and built from the sources as they are.
+
+A machine is one of MACHINES, the processors for which there are programs. release/INFO has the SHA-256 of each program.
+"""
 from __future__ import annotations
 
 import hashlib
@@ -16,34 +19,37 @@ PLATFORMS = ("manylinux_2_17", "manylinux2014", "musllinux_1_1")
 
 
 class Refusal(Exception):
-    """Why no wheel can be built here, in one line."""
+    """Raised if no wheel can be built here; the message says why, in one line."""
 
 
 @dataclass(frozen=True)
 class Programs:
-    """The programs by their names, with the machine that runs them."""
+    """The bytes of each program by its name, and the machine that runs them."""
 
     contents: Dict[str, bytes]
     machine: str
 
     @property
     def tag(self) -> str:
-        """The tag of a wheel that holds them, as in the wheel's name: any Python, no ABI, and each platform."""
+        """The tag in the name of a wheel that has them: any Python 3, no ABI, and each platform, with dots between these."""
         return "py3-none-" + ".".join(f"{it}_{self.machine}" for it in PLATFORMS)
 
     @property
     def tags(self) -> List[str]:
-        """The same tag, spelled out: one for each platform."""
+        """The tags that `tag` stands for: one for each of PLATFORMS, in order."""
         return [f"py3-none-{it}_{self.machine}" for it in PLATFORMS]
 
 
 def platform_here() -> str:
-    """The platform that Python was built for, as linux-x86_64."""
+    """Returns the platform that this Python was built for, such as "linux-x86_64"."""
     return sysconfig.get_platform()
 
 
 def machine_here() -> str:
-    """The machine whose program this Python's wheels hold. Raises `Refusal`."""
+    """Returns the one of MACHINES that this Python was built for.
+
+    Raises `Refusal` if it was built for another machine or another system than Linux.
+    """
     platform = platform_here()
     for machine in MACHINES:
         if platform == f"linux-{machine}":
@@ -53,24 +59,35 @@ def machine_here() -> str:
 
 
 def read_info(file: Path) -> Dict[str, str]:
-    """Reads the lines `KEY VALUE` of release/INFO."""
+    """Returns the values in a file of lines `KEY VALUE`, by their keys; of equal keys, the last one counts.
+
+    A line without a blank is a key with the value "". Raises OSError if the file can't be read.
+    """
     pairs = [line.partition(" ") for line in file.read_text(encoding="utf-8").splitlines()]
     return {key: value for key, _, value in pairs}
 
 
 def programs_of(top: Path) -> List[str]:
-    """The programs of a tree, by their files in release/: those whose crates its crates.txt has."""
+    """Returns the names of the programs of the repository at `top`: those of PROGRAMS whose crates are in its crates.txt.
+
+    Raises OSError if crates.txt can't be read.
+    """
     lines = (top / "crates.txt").read_text(encoding="utf-8").splitlines()
     crates = {line.partition(":")[0].strip() for line in lines if ":" in line}
     return [it for it in PROGRAMS if it.replace("-", "_") in crates]
 
 
 def read_programs(top: Path, machine: str) -> Programs:
-    """Reads the programs for a machine, which have to be the files that release/INFO names. Raises `Refusal`."""
+    """Returns the programs for a machine from the folder release/ of `top`.
+
+    Raises Refusal if a program or release/INFO can't be read, or if a program's SHA-256 isn't the one in release/INFO.
+    Raises OSError if crates.txt can't be read.
+    """
     return Programs({it: _read_program(top, machine, it) for it in programs_of(top)}, machine)
 
 
 def _read_program(top: Path, machine: str, program: str) -> bytes:
+    """Returns the bytes of a program for a machine; `program` is its name. Raises Refusal as `read_programs` does."""
     name = f"release/{machine}/{program}"
     try:
         content, info = (top / name).read_bytes(), read_info(top / "release/INFO")
@@ -82,7 +99,10 @@ def _read_program(top: Path, machine: str, program: str) -> bytes:
 
 
 def check_release(top: Path) -> None:
-    """Raises `Refusal` if release/ isn't whole and of the sources as they are, or if that can't be told."""
+    """Raises Refusal unless `tools/release --check` says that release/ was built from the sources as they are.
+
+    `top` is the top of the repository. Raises it too if that script can't be run.
+    """
     try:
         ran = subprocess.run([str(top / "tools/release"), "--check"], stdin=subprocess.DEVNULL, stdout=subprocess.PIPE,
                              stderr=subprocess.STDOUT)

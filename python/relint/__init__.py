@@ -1,4 +1,4 @@
-"""Tools beside the program relint: they read its reports and show, try, split and mend what it finds.
+"""The tools around the program relint, a linter for the regular expressions in Python source.
 
-None of them changes what relint says, and nothing here is proved.
+They run relint or read its reports, and show, try or mend what it finds. Nothing here is proved.
 """

@@ -1,4 +1,4 @@
-"""relint-baseline: writes the findings that a team has accepted to a file, which the other tools take by --baseline."""
+"""relint-baseline: writes the findings that a team has accepted to a file, which other tools take by --baseline."""
 from __future__ import annotations
 
 import argparse
@@ -45,7 +45,11 @@ def parser() -> Parser:
 
 
 def _action(given: argparse.Namespace) -> str:
-    """The action that the command line names, which is removed from the paths."""
+    """Returns the action that the command line asks for: "write", "update" or "accept".
+
+    The first of the paths, if it is one of ACTIONS, is removed from them and is the action. With --update, the action is
+    "update" even if that word is `write`. Raises GatherError if there is no action, or if `accept` comes with --update.
+    """
     if given.paths and given.paths[0] in ACTIONS:
         action = str(given.paths.pop(0))
     elif given.update:
@@ -60,7 +64,12 @@ def _action(given: argparse.Namespace) -> str:
 
 
 def _file(given: argparse.Namespace) -> str:
-    """The baseline file that is to be read or written."""
+    """Returns the path of the baseline file: that of --baseline or of the configuration, otherwise DEFAULT_FILE.
+
+    The path is absolute or relative to the current folder. DEFAULT_FILE lies beside the configuration file, or in the current
+    folder if there is none. Raises GatherError if the
+    configuration can't be used.
+    """
     found = gather.found_config(given)
     if given.baseline is not None:
         return str(given.baseline)
@@ -68,14 +77,23 @@ def _file(given: argparse.Namespace) -> str:
 
 
 def _run(given: argparse.Namespace, baseline: Baseline) -> Tuple[gather.Gathered, Split]:
-    """Runs relint over the paths without a baseline; returns the run, and its findings compared with the baseline."""
+    """Gathers the report that the command line asks for, with no finding hidden, and compares its findings with `baseline`.
+
+    Returns both. Sets `given.baseline` to "", which asks for none. Notes for the user go to standard error. Raises GatherError
+    if there is no report, and ProgramError if relint can't be run.
+    """
     given.baseline = ""
     run = gather.gathered(given)
-    gather.tell(NAME, run)
+    gather.write_notes(NAME, run)
     return run, known.split_by(baseline, run.report, run.findings, run.selection, Sources(run.folders), run.kinds)
 
 
 def _put(baseline: Baseline, before: Optional[Baseline]) -> None:
+    """Writes the file of the baseline, and prints how many entries it has and, unless `before` is None, how many more.
+
+    What couldn't be kept, such as the owner of the file, is said on standard error. Raises BaselineError if the file can't be
+    written, and Unwritten if standard output can't be.
+    """
     for lost in write_baseline(baseline):
         print(f"{NAME}: {visible(baseline.file)}: {lost}", file=sys.stderr)
     count = plain.counted(len(baseline.entries), "entry", "entries")
@@ -84,12 +102,19 @@ def _put(baseline: Baseline, before: Optional[Baseline]) -> None:
 
 
 def _place(one: Found) -> str:
+    """Returns the path, the line and the column of a finding for a message, or the path if it has no place."""
     place = one.entry.place
     return visible(one.entry.path) + (f":{place.line}:{place.column}" if place else "")
 
 
 def write(given: argparse.Namespace) -> int:
-    """Writes a baseline that accepts all findings of a run, and keeps the reasons of the old one. Returns the exit status."""
+    """Writes a baseline that accepts all findings of a run whose patterns are known; the others are named on standard error.
+
+    With --overwrite, a file that is there is changed as `updated` does. Findings that it doesn't accept get the reason of
+    --reason, or else FIRST_REASON. Returns FINDING if there are findings whose patterns aren't known, otherwise 0. Raises
+    BaselineError if a file is there and --overwrite isn't given, or if the file or the reason can't be used; otherwise what
+    `_run` and `_put` raise.
+    """
     file = _file(given)
     before = None
     if os.path.lexists(file):
@@ -106,7 +131,10 @@ def write(given: argparse.Namespace) -> int:
 
 
 def _accepted(found: Sequence[Found], reason: str) -> List[Accepted]:
-    """The entries that accept the findings. A finding whose pattern can't be read is named on standard error."""
+    """Returns the entries that accept the findings, in order; each has this reason.
+
+    A finding that `accepted` refuses, as when its pattern isn't known, is named on standard error instead.
+    """
     entries = []
     for one in found:
         try:
@@ -117,7 +145,11 @@ def _accepted(found: Sequence[Found], reason: str) -> List[Accepted]:
 
 
 def update(given: argparse.Namespace) -> int:
-    """Removes the stale entries, moves those whose files were renamed, and names the findings that aren't accepted."""
+    """Changes the baseline file as `updated` does: it takes out stale entries, moves others, and adds none.
+
+    Returns FINDING if there are findings that aren't accepted, which are named on standard error, otherwise 0. Raises
+    BaselineError if the file isn't there or can't be used; otherwise what `_run` and `_put` raise.
+    """
     before = read_baseline(_file(given))
     _, said = _run(given, before)
     _put(updated(before, said), before)
@@ -129,7 +161,12 @@ def update(given: argparse.Namespace) -> int:
 
 
 def accept(given: argparse.Namespace) -> int:
-    """Accepts the findings in a line of a file, each with the reason. An entry that is there already gets the new reason."""
+    """Accepts the findings in a line of a file, or at a line and column, with the reason of --reason; returns 0.
+
+    A finding that was accepted before gets this reason too, and the class that it has now. The file is made if it isn't there.
+    Raises BaselineError if there is no reason, no place or no finding there, if the pattern of a finding there isn't known, or
+    if the file can't be used; otherwise what `_run` and `_put` raise.
+    """
     if given.reason is None:
         raise BaselineError("accept needs --reason WORDS: why is the finding acceptable?")
     reason = checked_reason(given.reason)
@@ -151,7 +188,11 @@ def accept(given: argparse.Namespace) -> int:
 
 
 def _is_at(run: gather.Gathered, one: Found, line: int, column: int) -> bool:
-    """Whether the pattern of a finding has a part in the line and, if a column is given, begins there."""
+    """Returns whether a part of a finding's pattern is in the line or, if `column` isn't 0, the pattern begins exactly there.
+
+    Lines and columns count from 1. If the pattern can't be read from the sources of `run`, only its first line counts. A
+    finding without a place is in no line.
+    """
     place = one.entry.place
     if place is None or (column and (place.line, place.column) != (line, column)):
         return False
@@ -164,7 +205,10 @@ def _is_at(run: gather.Gathered, one: Found, line: int, column: int) -> bool:
 
 
 def _without(entries: Sequence[Accepted], some: Sequence[Accepted]) -> List[Accepted]:
-    """The entries without some of them; an entry that is there twice is removed only as often as it is in `some`."""
+    """Returns the entries without those in `some`; each of `some` removes the first equal entry.
+
+    Raises ValueError if there is none.
+    """
     left = list(entries)
     for it in some:
         left.remove(it)
@@ -172,6 +216,10 @@ def _without(entries: Sequence[Accepted], some: Sequence[Accepted]) -> List[Acce
 
 
 def _work(given: argparse.Namespace) -> int:
+    """Shows the configuration, if --show-config is given, or does the action of the command line; returns the exit status.
+
+    Raises GatherError if the command line names no action, and whatever showing the configuration or the action raises.
+    """
     if given.show_config:
         return gather.show_config(given)
     action = _action(given)
@@ -179,7 +227,11 @@ def _work(given: argparse.Namespace) -> int:
 
 
 def main(words: Optional[Sequence[str]] = None) -> int:
-    """Runs the tool with the words of the command line, and returns the exit status."""
+    """Runs the tool with the words of the command line, or those in `sys.argv` if None, and returns the exit status.
+
+    It is 0, FINDING if a finding isn't accepted, or the status of an error, which is named on standard error. A mistake in the
+    options ends the program with status 2.
+    """
     given = gather.parsed(parser(), words)
     return gather.ended(NAME, lambda: _work(given))
 

@@ -1,7 +1,7 @@
 """Judges the text that an editor or another tool has, instead of the file at its path.
 
-The configuration and the baseline count as for the file: they go by its path, of which nothing is read. relint reads files, so
-the text lies in a private folder while it is judged. The path and the text are those of others, and nothing of them is run.
+The configuration and the baseline are those for a file at this path; what the file has is never read. relint reads only files,
+so the text is written to a private folder while it is judged. A use is a call by which the code matches a pattern.
 """
 from __future__ import annotations
 
@@ -27,7 +27,7 @@ KNOWN = (GatherError, ConfigError, BaselineError, JudgeError, program.ProgramErr
 
 
 class NotJudged(Exception):
-    """Raised if there is no answer; the message says why, in one line that can be printed."""
+    """Raised if a text can't be judged; the message says why, in one line that can be printed."""
 
 
 class BufferSources(Sources):
@@ -45,7 +45,11 @@ class BufferSources(Sources):
 
 @dataclass(frozen=True)
 class Judged:
-    """The report on a text, its findings as the code uses their patterns, and its source."""
+    """What is known of a text that was judged.
+
+    `given` is the report on it. `looked` has the findings, divided into those that a use reaches and those that no use
+    reaches. `sources` has the text.
+    """
 
     given: Gathered
     looked: Looked
@@ -53,10 +57,10 @@ class Judged:
 
 
 def judged(text: str, path: str, most: Optional[int] = None) -> Optional[Judged]:
-    """Returns what relint says of a text that is to be the file at a path, or None if the configuration leaves it out.
+    """Returns what relint says of `text` as the content of the file at `path`, or None if the configuration leaves it out.
 
-    Of `most` findings at most, the worst, more is found out than the class. Raises NotJudged, and nothing else: another error
-    would stop flake8 for good, and would take the findings of other plugins from an editor.
+    The growth, the parts at fault and the offers are looked for only for the `most` worst findings, or for all if it is None.
+    Raises NotJudged in place of every other Exception; what is no Exception, such as KeyboardInterrupt, isn't caught.
     """
     try:
         return _judged(text, path, most)
@@ -67,6 +71,7 @@ def judged(text: str, path: str, most: Optional[int] = None) -> Optional[Judged]
 
 
 def _judged(text: str, path: str, most: Optional[int]) -> Optional[Judged]:
+    """Returns the same as `judged`, but raises exceptions as they come."""
     words = gather.parsed(_parser(), ["--", path])
     config = gather.found_config(words)
     rules = gather.rules_of(words, config)
@@ -77,29 +82,36 @@ def _judged(text: str, path: str, most: Optional[int]) -> Optional[Judged]:
     answer = _answer(gather.judge_of(rules), path, data)
     sources = BufferSources(path, data)
     selection = Selection(exclusions, [path])
-    given = gather.ruled(answer.report, rules, selection, (), [*config.warnings], answer.status, sources=sources)
+    given = gather.apply_rules(answer.report, rules, selection, (), [*config.warnings], answer.status, sources=sources)
     return Judged(given, looked_at(given, sources, most=most), sources)
 
 
 def named_entries(found: Judged) -> List[Entry]:
-    """Returns the entries without a class that are named: what wasn't read or judged in time, and under `strict` all."""
+    """Returns the entries to show that are neither exponential nor have a degree, in order.
+
+    If `strict` is set, these are all of them; otherwise only those about the file itself, and those not judged in time.
+    """
     rest = [it for it in found.given.report.entries if it.kind not in ("degree", "exponential")]
     return rest if found.given.strict else [it for it in rest if it.call is None or it.kind == "time"]
 
 
 def _parser() -> Parser:
-    """The reader of the words that relint-show would have for one path."""
+    """Returns a parser of the options that relint-show and the other tools share."""
     found = Parser("relint-show", "")
     gather.add_options(found)
     return found
 
 
 def _answer(judge: Judge, path: str, data: bytes) -> Answered:
-    """What relint says of the bytes, as if they were read from the path."""
+    """Returns what relint says of the bytes, in entries that have `path` as their path.
+
+    Raises JudgeError if relint gives no report, ProgramError if it can't be run, and OSError if the bytes can't be written to
+    a private folder, where relint reads them.
+    """
     with tempfile.TemporaryDirectory(prefix="relint-buffer-") as folder:
         copy = os.path.join(folder, "buffer.py")
         with open(copy, "wb") as out:
             out.write(data)
-        answer = joined(list(judge.answers([copy], [copy])))
+        answer = joined(list(judge.answers([copy])))
     entries = tuple(replace(it, path=path) for it in answer.report.entries)
     return Answered(replace(answer.report, entries=entries), answer.status)

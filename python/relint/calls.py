@@ -1,7 +1,8 @@
-"""Finds the calls of a source whose first argument is a string literal, as the running Python parses them.
+"""Finds the calls of a source that may take a pattern, as the running Python parses them.
 
-Sources that are small and flat are parsed here. Others are parsed in a process of their own, because the parser can crash on
-deep sources before Python 3.11, and the tree of a large source may take a gigabyte.
+These are the calls whose first argument, or argument `pattern`, is a literal of text or bytes. Sources that are small and flat
+are parsed in this process. Others are parsed in a process of their own, because the parser can crash on deep sources before
+Python 3.11, and the tree of a large source may take a gigabyte.
 """
 from __future__ import annotations
 
@@ -29,11 +30,11 @@ LAST_ARGUMENT = 4
 
 
 class Call(NamedTuple):
-    """The flags that the arguments of a call would give.
+    """What the arguments of a call would mean to a function of `re`: its flags, and a plain replacement.
 
-    `named` has the value of the argument `flags`, if there is one, and `placed` those of the arguments after the first. A
-    value is None if it isn't written with names of `re`. `is_plain` says that the argument `repl`, or else the second
-    argument, is a literal without a backslash.
+    `named` has the flags that the argument `flags` gives, and is empty if there is no such argument. `placed` has the flags
+    that the second to the fifth argument would give, as far as these are there. Flags are None if `flags_of` doesn't know
+    them. `is_plain` says that the argument `repl`, or else the second argument, is a literal without a backslash.
     """
 
     named: List[Optional[int]]
@@ -41,7 +42,10 @@ class Call(NamedTuple):
     is_plain: bool
 
     def flags(self, at: int) -> Optional[int]:
-        """Returns the flags of a call that takes them at a position: 0 if there are none, None if they aren't known."""
+        """Returns the flags of the call if its function takes them at position `at`, counted from 0 for the first argument.
+
+        `at` is at least 1. Flags that are given by name win. Returns 0 if there are none, and None if they aren't known.
+        """
         given = self.named or self.placed[at - 1:at]
         return given[0] if given else 0
 
@@ -51,7 +55,11 @@ Calls = Dict[Tuple[int, int], Call]
 
 
 def flags_of(node: ast.AST) -> Optional[int]:
-    """Returns the flags that an expression gives, or None if it isn't written only with names of `re`."""
+    """Returns the flags that an expression such as `re.I | re.M` gives.
+
+    Returns None if it has anything except names of flags, the number 0 and `|`, or if it has LOCALE. A name may be alone or
+    come after a dot; what is in front of the dot isn't looked at.
+    """
     value, left = 0, [node]
     while left:
         it = left.pop()
@@ -66,6 +74,10 @@ def flags_of(node: ast.AST) -> Optional[int]:
 
 
 def _is_plain(node: ast.Call) -> bool:
+    """Returns whether the argument `repl`, or else the second one, is a literal of text or bytes without a backslash.
+
+    Returns False if the call has neither.
+    """
     given = [it.value for it in node.keywords if it.arg == "repl"] or node.args[1:2]
     if len(given) != 1 or not isinstance(given[0], ast.Constant):
         return False
@@ -74,6 +86,10 @@ def _is_plain(node: ast.Call) -> bool:
 
 
 def _calls(tree: ast.AST) -> Iterator[Tuple[Tuple[int, int], Call]]:
+    """Yields, for each call whose first argument, or argument `pattern`, is a literal of text or bytes, a place and the call.
+
+    The place is where the literal begins: its line, counted from 1, and the byte in the line, counted from 0.
+    """
     for node in ast.walk(tree):
         if isinstance(node, ast.Call):
             for it in (*node.args[:1], *(it.value for it in node.keywords if it.arg == "pattern")):
@@ -94,12 +110,16 @@ def parsed(text: str) -> Optional[Calls]:
 
 
 def is_small(data: bytes) -> bool:
-    """Returns whether a source is small and flat, so that it can be parsed in this process."""
+    """Returns whether a source has at most LARGEST_AT_ONCE bytes, and at most MOST_SIGNS signs and words that can nest."""
     return len(data) <= LARGEST_AT_ONCE and len(SIGNS.findall(data)) <= MOST_SIGNS
 
 
 def calls_of(text: str) -> Optional[Calls]:
-    """Returns the calls of a source; None if the running Python can't parse it, or its parser crashes or takes too long."""
+    """Returns the calls of a source; None if the running Python can't parse it.
+
+    Unless `is_small` is true, it is parsed in a process of its own; the result is None too if that process crashes, can't be
+    started, or takes more than SECONDS or MEMORY.
+    """
     data = text.encode("utf-8", "surrogatepass")
     if is_small(data):
         return parsed(text)
@@ -115,7 +135,11 @@ def calls_of(text: str) -> Optional[Calls]:
 
 
 def main() -> None:
-    """Reads a source from standard input, and writes its calls as JSON."""
+    """Reads a source from standard input, and writes its calls to standard output in JSON; null if it can't be parsed.
+
+    The calls are a list; an item of it has the line, the byte, and the list of the call's fields. The memory of this process
+    is limited to MEMORY bytes first. Raises UnicodeDecodeError if the source isn't UTF-8; lone surrogates are allowed.
+    """
     import resource
 
     resource.setrlimit(resource.RLIMIT_AS, (MEMORY, MEMORY))

@@ -1,4 +1,7 @@
-"""The causes and limits for which an entry has no class, each with words and the page that helps."""
+"""The causes for which an entry isn't judged, and the limits for which it is undecided, each in words.
+
+The causes also have the page of the documentation that helps.
+"""
 from __future__ import annotations
 
 from typing import Dict, Optional, Tuple
@@ -57,5 +60,8 @@ OLDER = ("word-boundary", "multiline-anchor")
 
 
 def words(name: str) -> Optional[Tuple[str, str]]:
-    """Returns what a cause means, and the page that helps; None if the cause isn't known."""
+    """Returns two texts: what `name`, a cause or TIME, means, and how to show the page that helps.
+
+    Returns None for any other name, such as one of OLDER.
+    """
     return CAUSES.get(name) or CAUSES_OF_TOOLS.get(name)

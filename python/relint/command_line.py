@@ -1,4 +1,4 @@
-"""The parts of the command line that the tools share: one-line messages with the nearest word, and --version.
+"""The parts of the command line that the tools share: --help, --version, and messages of one line about mistakes.
 
 `TOOLS` is the list of the tools.
 """
@@ -10,7 +10,7 @@ import os
 import re
 from typing import Any, Callable, Dict, Iterable, List, NoReturn, Optional, Sequence
 
-from .output import whole
+from .output import write_whole
 from .program import REFUSED
 from .writing import visible
 
@@ -31,7 +31,10 @@ MOST_NAMES = 2000
 
 
 def version() -> str:
-    """Returns the version: that in the file VERSION of the clone, or that of the installed package."""
+    """Returns the version of the clone that this file is in, by its file VERSION, or else that of the installed package.
+
+    Returns "of an unknown version" if there is neither.
+    """
     file = os.path.join(os.path.dirname(os.path.realpath(__file__)), "..", "..", "VERSION")
     try:
         with open(file, encoding="utf-8") as opened:
@@ -52,7 +55,10 @@ def nearest(word: str, known: Iterable[str]) -> str:
 
 
 def not_there(path: str) -> str:
-    """Returns the message for a path that isn't there, with the nearest name in its folder."""
+    """Returns the message for a path that isn't there, with the nearest name in its folder if one is near.
+
+    Only MOST_NAMES names of the folder are compared, and none if the folder can't be listed.
+    """
     folder, name = os.path.split(path)
     try:
         names = os.listdir(folder or ".")[:MOST_NAMES]
@@ -63,33 +69,43 @@ def not_there(path: str) -> str:
 
 
 class _Version(argparse.Action):
-    """Prints the tool's name and version, and ends."""
+    """The option --version."""
 
     def __call__(self, parser: argparse.ArgumentParser, *_: Any, **__: Any) -> None:
-        parser.exit(whole(parser.prog, f"{parser.prog} {version()}\n"))
+        """Prints the tool's name and version, and ends the program: with status 0, or WRITE_FAULT if it can't be printed."""
+        parser.exit(write_whole(parser.prog, f"{parser.prog} {version()}\n"))
 
 
 class _Help(argparse._HelpAction):
-    """Prints the help of the tool, and ends."""
+    """The option --help."""
 
     def __call__(self, parser: argparse.ArgumentParser, *_: Any, **__: Any) -> None:
-        parser.exit(whole(parser.prog, parser.format_help()))
+        """Prints the help of the tool, and ends the program: with status 0, or WRITE_FAULT if it can't be printed."""
+        parser.exit(write_whole(parser.prog, parser.format_help()))
 
 
 class Parser(argparse.ArgumentParser):
-    """A parser of the command line that reports a mistake in one line, with the nearest word, and ends with status 2."""
+    """A parser of the command line that reports a mistake in one line on standard error, and ends the program with status 2.
+
+    Options can't be abbreviated.
+    """
 
     def __init__(self, prog: str, description: str, epilog: Optional[str] = None) -> None:
+        """Takes the name of the tool, and the texts before and after the options in its help; adds --help and --version."""
         super().__init__(prog=prog, description=description, epilog=epilog, allow_abbrev=False, add_help=False)
         self.add_argument("-h", "--help", action=_Help, help="show this help message and exit")
         self.add_argument("--version", action=_Version, nargs=0, help="show the version and exit")
 
     def options(self) -> List[str]:
-        """Returns the names of all options."""
+        """Returns the names of all options, such as "--help" and "-h"."""
         return [it for action in self._actions for it in action.option_strings]
 
     def error(self, message: str) -> NoReturn:
-        """Prints the message in one line, and ends the program with status 2."""
+        """Prints the message in one line to standard error, and ends the program with status 2.
+
+        A message of argparse about unrecognized arguments is replaced: it names the first one that begins with `-`, or else
+        all of them, and the nearest option if one is near.
+        """
         unknown = re.fullmatch("unrecognized arguments: (.*)", message, re.S)
         if unknown:
             word = next((it for it in unknown.group(1).split() if it.startswith("-")), unknown.group(1))
@@ -99,8 +115,9 @@ class Parser(argparse.ArgumentParser):
 
 
 def number(least: int, most: int) -> Callable[[str], int]:
-    """Returns the type of an option that takes a whole number in a range."""
+    """Returns the `type`, for argparse, of an option that takes a whole number from `least` to `most`, of up to six digits."""
     def read(text: str) -> int:
+        """Returns the number that the text gives. Raises ArgumentTypeError if it gives none in the range."""
         if not NUMBER.fullmatch(text) or not least <= int(text) <= most:
             raise argparse.ArgumentTypeError(f"a number from {least} to {most} is wanted, not {text!r}")
         return int(text)
@@ -108,8 +125,9 @@ def number(least: int, most: int) -> Callable[[str], int]:
 
 
 def one_of(*choices: str) -> Callable[[str], str]:
-    """Returns the type of an option that takes one of some words; its attribute `choices` has the words."""
+    """Returns the `type`, for argparse, of an option that takes one of some words; its attribute `choices` has the words."""
     def read(text: str) -> str:
+        """Returns the text. Raises ArgumentTypeError if it isn't one of the words."""
         if text not in choices:
             raise argparse.ArgumentTypeError(f"one of {', '.join(choices)} is wanted, not {text!r}{nearest(text, choices)}")
         return text

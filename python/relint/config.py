@@ -1,8 +1,8 @@
 """The configuration of the tools: the table `tool.relint` of the nearest pyproject.toml, or the file relint.toml.
 
 `load` finds and reads it. All tools have the same keys, and the command line wins over the file. Since others may have written
-the file, it is checked before it is used: it is refused, with its name, if it is too large, isn't a regular file or TOML, is a
-link out of its folder, or has an unknown key or a wrong value.
+the file, it is checked before it is used: it is refused if it is too large, isn't a regular file or TOML, has an unknown key
+or a wrong value, or is a link out of its folder and wasn't named in the command line.
 """
 from __future__ import annotations
 
@@ -29,16 +29,20 @@ LONGEST_SHOWN = 60
 
 
 class ConfigError(Exception):
-    """Raised if the configuration can't be used: the message names the file and says why; `status` is the exit status."""
+    """Raised if the configuration can't be used; the message says why, and `status` is the exit status of the tool."""
 
     def __init__(self, message: str, status: int = REFUSED) -> None:
+        """Takes the message and the exit status."""
         super().__init__(message)
         self.status = status
 
 
 @dataclass(frozen=True)
 class Key:
-    """The values that a key may have: in words, and as a test of a value from TOML. `choices` are the words to choose from."""
+    """The values that a key may have: in words, `wanted`, and as a test of a value from TOML, `is_valid`.
+
+    `choices` are the words to choose from, if the value is one of some words; otherwise there are none.
+    """
 
     wanted: str
     is_valid: Callable[[Any], bool]
@@ -46,27 +50,28 @@ class Key:
 
 
 def whole(least: int, most: int) -> Key:
-    """Returns a key for a whole number in a range."""
+    """Returns a key for a whole number from `least` to `most`."""
     return Key(f"a whole number from {least} to {most}",
                lambda it: isinstance(it, int) and not isinstance(it, bool) and least <= it <= most)
 
 
 def one_of(choices: Sequence[str]) -> Key:
-    """Returns a key for one of some words."""
+    """Returns a key for one of the words `choices`."""
     return Key("one of " + ", ".join(choices), lambda it: isinstance(it, str) and it in choices, tuple(choices))
 
 
 def _is_text(value: Any) -> bool:
+    """Returns whether a value of TOML is a text that isn't empty and has no NUL."""
     return isinstance(value, str) and value != "" and "\0" not in value
 
 
 def _is_seconds(value: Any) -> bool:
-    """Whether a value of TOML is a time limit: above 0, and at most MOST_NUMBER."""
+    """Returns whether a value of TOML is a time limit: a number, which may be a fraction, above 0 and at most MOST_NUMBER."""
     return isinstance(value, (int, float)) and not isinstance(value, bool) and 0 < value <= MOST_NUMBER
 
 
 def _texts(least: int) -> Callable[[Any], bool]:
-    """A test for lists of at least that many texts that aren't empty."""
+    """Returns a test of a value of TOML: whether it is a list of at least `least` texts for which `_is_text` is true."""
     return lambda it: isinstance(it, list) and len(it) >= least and all(map(_is_text, it))
 
 
@@ -87,7 +92,21 @@ KEYS: Dict[str, Key] = {
 
 @dataclass(frozen=True)
 class Config:
-    """The configuration of the tools. Paths and globs are relative to `folder`; `given` has the keys that `file` sets."""
+    """The configuration of the tools: a field for each key of KEYS, and where it comes from.
+
+    `file` is the path of the file, or None if there is none. The paths and globs are relative to `folder`, the folder of the
+    file, without links. `given` has the keys that the file sets; the others have their defaults. `warnings` are lines for the
+    user.
+
+    `paths` are looked at if the command line names none, except what the globs `exclude` match. `max_degree` is the highest
+    degree that isn't a finding; degrees above `warn_degree` and up to it are warned of, unless `warn_degree` is None.
+    `max_pairs` is the largest number of live pairs, each a state with a set of states, that relint explores for a pattern.
+    `compile_as`, one of MODES, is the mode in which a call of `compile` is judged. `baseline` is the path of the
+    baseline file, or None. With `strict`, undecided entries and those that weren't judged make a tool fail too. `jobs` is how
+    many runs of relint go on at a time, and `seconds` how long one may take for a file; None is the tool's own number. `wide`
+    says whether the tools also look for patterns as relint-wide does: whether the key `wide` is true or a table. `wide_table`
+    is that table, or else empty.
+    """
 
     file: Optional[str] = None
     folder: str = "."
@@ -107,14 +126,17 @@ class Config:
     warnings: Tuple[str, ...] = ()
 
     def from_here(self, path: str) -> str:
-        """Returns a path of the configuration file as a path from the current folder."""
+        """Returns a path that the configuration file gives, made relative to the current folder.
+
+        It is returned as it is if it is absolute, or if there is no configuration file.
+        """
         if os.path.isabs(path) or self.file is None:
             return path
         whole_path = os.path.join(self.folder, path)
         return os.path.relpath(whole_path, os.path.realpath(os.getcwd()))
 
     def named_paths(self) -> List[str]:
-        """Returns the paths to look at if the command line names none."""
+        """Returns the paths to look at if the command line names none, relative to the current folder or absolute."""
         return [self.from_here(it) for it in self.paths]
 
 
@@ -125,7 +147,8 @@ MOST_DOTS = 1_000
 def read_toml(text: str) -> Dict[str, Any]:
     """Returns the table that a TOML text holds.
 
-    Raises ValueError if the text isn't TOML, and ConfigError if this Python has no reader of TOML.
+    Raises ValueError if the text isn't TOML, is nested too deeply or has a line with more than MOST_DOTS dots. Raises
+    ConfigError if this Python has no reader of TOML.
     """
     reader = None
     for name in ("tomllib", "tomli"):
@@ -147,7 +170,10 @@ def read_toml(text: str) -> Dict[str, Any]:
 
 
 def check_table(table: Mapping[str, Any], keys: Mapping[str, Key], place: str) -> None:
-    """Raises ConfigError if a table has a key that isn't among these, or a wrong value. `place` names the table."""
+    """Raises ConfigError for the first key of a table that isn't in `keys`, or has a value that `keys` doesn't allow.
+
+    `place` names the table in the message.
+    """
     for name, value in table.items():
         key = keys.get(name)
         if key is None:
@@ -159,12 +185,16 @@ def check_table(table: Mapping[str, Any], keys: Mapping[str, Key], place: str) -
 
 
 def _shown(value: object) -> str:
+    """Returns a value as Python shows it, in ASCII, with " .." in place of what comes after LONGEST_SHOWN characters."""
     text = ascii(value)
     return text if len(text) <= LONGEST_SHOWN else text[:LONGEST_SHOWN] + " .."
 
 
 def common_folder(paths: Sequence[str]) -> str:
-    """Returns the lowest folder, without links, in which all paths lie; the current folder if there are no paths."""
+    """Returns the lowest folder that is there and that all paths are or lie in; the current folder if there are no paths.
+
+    It is absolute and has no links in it. A path that isn't a folder counts as a file.
+    """
     folders = [os.path.realpath(it if os.path.isdir(it) else os.path.dirname(it) or ".") for it in paths]
     found = os.path.commonpath(folders) if folders else os.path.realpath(os.getcwd())
     while not os.path.isdir(found) and os.path.dirname(found) != found:
@@ -173,10 +203,10 @@ def common_folder(paths: Sequence[str]) -> str:
 
 
 def folders_above(start: str) -> List[str]:
-    """Returns the folders in which a configuration is looked for: the start, and the trusted folders above it.
+    """Returns the folders in which a configuration is looked for, in order: `start`, and the folders above it.
 
-    The search ends at the top of a repository, at the home folder, and at the top of the file system. It also ends below a
-    folder that everybody may write to or that is on another file system.
+    `start` is an absolute path without links. The last one is the first that is the top of a repository, the home folder or
+    the top of the file system, or that lies in a folder that `_is_trusted` denies.
     """
     home = os.path.realpath(os.path.expanduser("~"))
     found = [start]
@@ -189,10 +219,15 @@ def folders_above(start: str) -> List[str]:
 
 
 def _is_top(folder: str) -> bool:
+    """Returns whether a folder is the top of a repository: whether it has one of the names TOPS in it."""
     return any(os.path.lexists(os.path.join(folder, it)) for it in TOPS)
 
 
 def _is_trusted(above: str, below: str) -> bool:
+    """Returns whether the folder `above` is on the same file system as `below`, and not everybody may write to it.
+
+    Returns False if the status of one of them can't be read.
+    """
     try:
         upper, lower = os.stat(above), os.stat(below)
     except OSError:
@@ -201,9 +236,10 @@ def _is_trusted(above: str, below: str) -> bool:
 
 
 def load(paths: Sequence[str], named: Optional[str] = None, without: bool = False) -> Config:
-    """Returns the configuration of the file `named`, or the nearest one above the paths; the default if there is none.
+    """Returns the default configuration if `without` is True; otherwise that of the file `named`, or the nearest if None.
 
-    With `without`, returns the default. Raises ConfigError if the file can't be used.
+    The nearest one is in the first of the folders that `folders_above` gives for the common folder of the paths in which there
+    is one; if there is none, the default is returned. Raises ConfigError if a file can't be used.
     """
     if without:
         return Config()
@@ -217,17 +253,25 @@ def load(paths: Sequence[str], named: Optional[str] = None, without: bool = Fals
 
 
 def _in_folder(folder: str) -> Optional[Config]:
-    """The configuration in a folder, or None if it has none. relint.toml wins over pyproject.toml. Raises ConfigError."""
+    """Returns the configuration in a folder; None if there is no relint.toml, and no pyproject.toml with a table tool.relint.
+
+    relint.toml wins over pyproject.toml; if both count, a warning says so. Raises ConfigError if a file can't be used.
+    """
     own, shared = os.path.join(folder, OWN_FILE), os.path.join(folder, SHARED_FILE)
     table = _table_of(shared, is_own=False, is_named=False) if os.path.lexists(shared) else None
     if os.path.lexists(own):
-        passed = f"{_from_here(shared)}: its table tool.relint has no effect, as {OWN_FILE} lies beside it"
-        return _config(own, _table_of(own, is_own=True, is_named=False), () if table is None else (passed,))
+        warning = f"{_from_here(shared)}: its table tool.relint has no effect, as {OWN_FILE} lies beside it"
+        return _config(own, _table_of(own, is_own=True, is_named=False), () if table is None else (warning,))
     return _config(shared, table) if table is not None else None
 
 
 def _table_of(file: str, is_own: bool, is_named: bool) -> Optional[Dict[str, Any]]:
-    """The table of keys in a file; None if a shared file that wasn't named has no such table. Raises ConfigError."""
+    """Returns the table of keys in a file; None if a shared file that the user didn't name has no such table.
+
+    `is_own` says that the whole file is the table, as in relint.toml; otherwise it is the table `tool.relint`. `is_named` says
+    that the user named the file. Raises ConfigError if the file can't be read, isn't TOML, was named and has no such table, or
+    has a `tool.relint` that is no table. A shared file that wasn't named and doesn't mention `relint` isn't parsed.
+    """
     name = _from_here(file)
     data = _bytes_of(file, name, is_named)
     if not is_own and not is_named and b"relint" not in data:
@@ -250,9 +294,9 @@ def _table_of(file: str, is_own: bool, is_named: bool) -> Optional[Dict[str, Any
 
 
 def _bytes_of(file: str, name: str, is_named: bool) -> bytes:
-    """The bytes of a file. Raises ConfigError if it can't be read or is too large.
+    """Returns the bytes of a file. Raises ConfigError, which calls it `name`, if it can't be read or is over MOST_BYTES.
 
-    A file that the user didn't name is also refused if it is a link out of its folder.
+    Unless `is_named` is True, it is also raised if the file is a link out of its folder.
     """
     folder = os.path.realpath(os.path.dirname(file) or ".")
     real = os.path.realpath(file)
@@ -265,7 +309,10 @@ def _bytes_of(file: str, name: str, is_named: bool) -> bytes:
 
 
 def _config(file: str, table: Optional[Mapping[str, Any]], warnings: Tuple[str, ...] = ()) -> Config:
-    """The configuration that the table of a file gives. Raises ConfigError if the table is wrong."""
+    """Returns the configuration that the table of a file gives; None counts as an empty table.
+
+    Raises ConfigError if the table has an unknown key or a wrong value.
+    """
     table = table or {}
     name = _from_here(file)
     is_shared = os.path.basename(file) == SHARED_FILE
@@ -281,13 +328,16 @@ def _config(file: str, table: Optional[Mapping[str, Any]], warnings: Tuple[str, 
 
 
 def check_tiers(max_degree: int, warn_degree: Optional[int]) -> None:
-    """Raises ConfigError if `warn_degree` isn't below `max_degree`, so that it would never warn."""
+    """Raises ConfigError if `warn_degree` isn't None and isn't below `max_degree`, since no degree would be warned of."""
     if warn_degree is not None and warn_degree >= max_degree:
         raise ConfigError(f"warn-degree = {warn_degree} must be below max-degree = {max_degree}: what is above that fails")
 
 
 def _from_here(file: str) -> str:
-    """The name of a file for messages: relative to the current folder if the file lies below it."""
+    """Returns the path of a file for messages, as `visible` writes it.
+
+    It is relative to the current folder if it lies below it, otherwise as it was given.
+    """
     try:
         relative = os.path.relpath(os.path.abspath(file), os.getcwd())
     except (OSError, ValueError):
@@ -296,7 +346,10 @@ def _from_here(file: str) -> str:
 
 
 def shown(config: Config) -> List[str]:
-    """Returns the configuration as lines of TOML; a comment says where each value comes from."""
+    """Returns the configuration as lines of TOML: a comment that names the file, if there is one, then a line for each key.
+
+    A comment behind the value says whether it is from the file or the default. A key whose value is None is a comment.
+    """
     name = _from_here(config.file) if config.file else ""
     lines = [f"# {name}" if name else "# no configuration file"]
     for key in KEYS:
@@ -309,6 +362,7 @@ def shown(config: Config) -> List[str]:
 
 
 def _as_toml(value: Any) -> str:
+    """Returns a value as it is written in a line of TOML; it is True or False, a list, tuple, `dict` or text, or a number."""
     if isinstance(value, bool):
         return "true" if value else "false"
     if isinstance(value, (list, tuple)):
@@ -321,6 +375,10 @@ def _as_toml(value: Any) -> str:
 
 
 def _toml_character(it: str) -> str:
+    """Returns a character as it is written in a text of TOML: itself, or an escape.
+
+    It has an escape if it is a double quote or a backslash, or can't be printed.
+    """
     if it in '"\\':
         return "\\" + it
     if it.isprintable() and not 0xD800 <= ord(it) <= 0xDFFF:

@@ -1,8 +1,9 @@
-"""Decides what a walk over folders leaves out: folders of a default list, and what globs name.
+"""Decides what a walk over folders leaves out: folders of a default list, virtual environments, and what globs match.
 
-The default list counts only below a folder that was named; a folder that the user names is looked at in any case. A glob
-without a `/` is matched against each name in a path. A glob with a `/` is matched against the path and each folder above it;
-`*` matches `/` too.
+The default list counts, with the virtual environments, only below a folder that was named; a folder that the user names is
+looked at unless a glob matches it. A glob without a `/` before its end is matched against the last name of a path. A glob with
+one is matched against the whole path, relative to the folder of the globs; `*` matches `/` too. For a path that was named, the
+folders above it are tried too; a walk tries each folder before it enters it.
 """
 from __future__ import annotations
 
@@ -33,14 +34,21 @@ class Globs:
         self._used: Set[str] = set()
 
     def _normal(self, glob: str) -> Tuple[str, bool]:
-        """The glob in the form that is matched, and whether it is matched against whole paths."""
+        """Returns the glob in its shortest form, and whether it is matched against whole paths, not last names.
+
+        A glob that is an absolute path is made relative to the folder. It is matched against whole paths if it has a `/`
+        before its end.
+        """
         text = os.path.normpath(glob)
         if os.path.isabs(text):
             text = os.path.relpath(text, self._folder)
         return text, "/" in glob.rstrip("/")
 
     def matches(self, path: str, every_level: bool = False) -> bool:
-        """Returns whether a glob matches a path or, with `every_level`, a folder above it. A final link isn't followed."""
+        """Returns whether a glob matches a path or, with `every_level`, a folder above it on the way from the globs' folder.
+
+        If the last part of the path is a link, it isn't followed. Each glob that matches counts as used.
+        """
         if not self._globs:
             return False
         names = self._from_folder(path).split("/")
@@ -48,16 +56,20 @@ class Globs:
         if not every_level:
             levels = levels[-1:]
         # (all globs are tried, so that each one that matches counts as used)
-        return any([self._matches_one(said, *it, levels) for said, it in self._globs.items()])
+        return any([self._matches_one(given, *it, levels) for given, it in self._globs.items()])
 
-    def _matches_one(self, said: str, text: str, is_path: bool, levels: List[str]) -> bool:
+    def _matches_one(self, given: str, text: str, is_path: bool, levels: List[str]) -> bool:
+        """Returns whether a glob matches one of the paths in `levels`, and notes it as used if so.
+
+        `given` is the glob as it was given; `text` and `is_path` are what `_normal` returns for it.
+        """
         found = any(fnmatch.fnmatchcase(it if is_path else it.rpartition("/")[2], text) for it in levels)
         if found:
-            self._used.add(said)
+            self._used.add(given)
         return found
 
     def _from_folder(self, path: str) -> str:
-        """The path from the folder that the globs are relative to."""
+        """Returns the path relative to the folder of the globs, with all links in it followed except the last part."""
         above, name = os.path.split(path.rstrip("/") or path)
         if above not in self._relative:
             real = os.path.realpath(above or ".")
@@ -66,12 +78,12 @@ class Globs:
         return name if front == "." else f"{front}/{name}"
 
     def unused(self) -> List[str]:
-        """Returns the globs that matched nothing."""
+        """Returns the globs that matched nothing so far, as they were given."""
         return [it for it in self._globs if it not in self._used]
 
 
 class Exclusions:
-    """Decides what a run leaves out; `folders` and `files` count what was left out."""
+    """Decides what a run leaves out; `folders` and `files` are the numbers of folders and files left out so far."""
 
     def __init__(self, config: Config, given: Sequence[str] = (), default: bool = True) -> None:
         """Takes the configuration, the globs of the command line, and whether the default list counts.
@@ -84,7 +96,10 @@ class Exclusions:
         self.folders = self.files = 0
 
     def takes_named(self, path: str) -> bool:
-        """Returns whether a path that was named, or listed by another tool, is looked at; counts it if it isn't."""
+        """Returns whether a path that was named, or listed by another tool, is looked at; counts it if it isn't.
+
+        It is looked at unless a glob matches it or a folder above it.
+        """
         is_left_out = self._globbed(path, True)
         self._count(is_left_out, os.path.isdir(path))
         return not is_left_out
@@ -92,7 +107,9 @@ class Exclusions:
     def takes_folder(self, path: str, names: Optional[Sequence[str]] = None) -> bool:
         """Returns whether a folder below a named one is entered; counts it if it isn't.
 
-        `names` are the names of its children, if they are known.
+        It isn't entered if a glob matches it. If the default list counts, it isn't entered either if the list has its name or
+        it is a virtual environment, which has a file ENVIRONMENT_MARK. `names` are the names of its children, or None if they
+        aren't known.
         """
         name = os.path.basename(path)
         has_mark = ENVIRONMENT_MARK in names if names is not None else os.path.isfile(os.path.join(path, ENVIRONMENT_MARK))
@@ -101,20 +118,22 @@ class Exclusions:
         return not is_left_out
 
     def takes_file(self, path: str) -> bool:
-        """Returns whether a file below a named folder is looked at; counts it if it isn't."""
+        """Returns whether a file below a named folder is looked at: whether no glob matches it. Counts it if it isn't."""
         is_left_out = self._globbed(path, False)
         self._count(is_left_out, False)
         return not is_left_out
 
     def _globbed(self, path: str, every_level: bool) -> bool:
+        """Returns whether a glob of the configuration or the command line matches; the arguments are as in `Globs.matches`."""
         return any([it.matches(path, every_level) for it in self._all])
 
     def _count(self, is_left_out: bool, is_folder: bool) -> None:
+        """Counts a folder or, if `is_folder` is False, a file; nothing is counted unless `is_left_out` is True."""
         if is_left_out and is_folder:
             self.folders += 1
         elif is_left_out:
             self.files += 1
 
     def unused(self, with_config: bool = True) -> List[str]:
-        """Returns the globs that matched nothing; with `with_config`, those of the configuration come first."""
+        """Returns the globs of the command line that matched nothing so far; with `with_config`, also the configuration's."""
         return [it for globs in self._all[0 if with_config else 1:] for it in globs.unused()]

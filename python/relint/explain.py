@@ -19,11 +19,11 @@ HERE = os.path.dirname(os.path.realpath(__file__))
 
 
 class NotExplained(Exception):
-    """Raised if there is no such rule, cause or page; the message says what there is."""
+    """Raised if no rule, cause or page has the name that was asked for, or its page isn't installed; the message says so."""
 
 
 def pages() -> Dict[str, str]:
-    """Returns the paths of the pages by their names in lower case."""
+    """Returns the paths of the pages by their names in lower case, without `.md`; an empty `dict` if none are installed."""
     for folder in (os.path.join(HERE, "docs"), os.path.join(HERE, "..", "..", "docs")):
         if os.path.isfile(os.path.join(folder, "RULES.md")):
             found = sorted(it for it in os.listdir(folder) if it.endswith(".md"))
@@ -32,7 +32,10 @@ def pages() -> Dict[str, str]:
 
 
 def page(name: str) -> str:
-    """Returns the text of a page. Raises NotExplained if it isn't there."""
+    """Returns the text of the page that `pages` has under `name`.
+
+    Raises NotExplained if `pages` has no such name, and OSError if the page can't be read.
+    """
     known = pages()
     if name not in known:
         raise NotExplained(f"the page {name} isn't installed here")
@@ -41,13 +44,21 @@ def page(name: str) -> str:
 
 
 def sections(text: str) -> List[Tuple[str, str]]:
-    """Returns the heading and the text of each section of a page."""
+    """Returns the heading and the text of each section of a page, in order; none if there is no section.
+
+    A section begins with a line `## HEADING` and goes on to the next such line; smaller headings, such as `### ..`, are part
+    of its text. The line ends around its text are removed. What comes before the first section is left out.
+    """
     parts = re.split(r"^## (.*)$", text, flags=re.M)
     return [(heading, body.strip("\n")) for heading, body in zip(parts[1::2], parts[2::2])]
 
 
 def rule(number: int) -> Tuple[str, str]:
-    """Returns the title of a rule, and the text about it in the page of rules. Raises NotExplained if there is no such one."""
+    """Returns the title of the rule RLT`number`, and the text about it in the page of rules.
+
+    Both are those of the first section whose heading names the rule, or a range with it. The title is what comes after the
+    first ": " of the heading, or "". Raises NotExplained if no section is about the rule, or the page isn't installed.
+    """
     for heading, body in sections(page(RULES_PAGE)):
         numbers = rules.range_of(heading)
         if numbers and numbers[0] <= number <= numbers[1]:
@@ -56,7 +67,11 @@ def rule(number: int) -> Tuple[str, str]:
 
 
 def explained(topic: str) -> str:
-    """Returns the text about a rule's code, a cause, a limit or a page. Raises NotExplained if there is none."""
+    """Returns the text about a topic: a rule's code such as RLT100, the name of a cause, or the name of a page.
+
+    Small and capital letters count as the same, and blanks around the topic don't count. Raises NotExplained if the
+    topic is none of these, or if the page that it needs isn't installed.
+    """
     asked = topic.strip().lower()
     coded = CODE.fullmatch(asked)
     if coded:

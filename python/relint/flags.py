@@ -21,16 +21,22 @@ INLINE, TURNED_OFF = "aiLmsux", "imsx"
 
 
 def letters(flags: int, among: str = JUDGED) -> str:
-    """Returns the letters of the flags that are set, out of the letters in `among`."""
+    """Returns the letters of the flags that are set, in the order of `among`; flags that aren't in `among` are left out.
+
+    `flags` is their value, as in `re`. `among` must be made of keys of VALUES. Returns "" if none of its flags is set.
+    """
     return "".join(it for it in among if flags & VALUES[it])
 
 
 def front(flags: int) -> str:
-    """Returns the group that sets these flags in front of a pattern, such as "(?im)", or "" if none is set."""
+    """Returns the group that sets these flags in front of a pattern, such as "(?im)"; flags not in JUDGED are left out.
+
+    Returns "" if none of JUDGED is set.
+    """
     found = letters(flags).lower()
     return f"(?{found})" if found else ""
 
 
 def code(flags: int, among: str = JUDGED) -> str:
-    """Returns the flags as a Python expression, such as "re.I | re.M", or "" if none is set."""
+    """Returns the flags that `letters` gives, as a Python expression such as "re.I | re.M"; "" if there are none."""
     return " | ".join(f"re.{it}" for it in letters(flags, among))

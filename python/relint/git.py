@@ -31,15 +31,16 @@ class GitError(Exception):
 
 
 def environment() -> Dict[str, str]:
-    """Returns the environment for git: this process's without git's own variables, and with those that keep it quiet."""
+    """Returns the environment for git: that of this process with VARIABLES in place of all that begins with `GIT_`."""
     kept = {name: value for name, value in os.environ.items() if not name.startswith("GIT_")}
     return {**kept, **VARIABLES}
 
 
 def tracked(path: str) -> List[str]:
-    """Returns the files that git tracks at a path or below it. Raises GitError.
+    """Returns the paths that git tracks at a path or below it, in git's order; none if it tracks none there.
 
-    The files are relative or absolute as the path is. Those below "." have no "./" in front.
+    They are relative to the current folder if `path` is, otherwise absolute. Those below "." have no "./" in front. Raises
+    GitError if git can't list them, for instance because `path` is in no work tree.
     """
     folder, name = (path, "") if os.path.isdir(path) else os.path.split(path)
     here = os.path.realpath(folder or ".")
@@ -52,7 +53,11 @@ def tracked(path: str) -> List[str]:
 
 
 def work_tree(folder: str) -> str:
-    """Returns the top of the work tree that a folder is in. Raises GitError if there is none, or git finds another one."""
+    """Returns the top of the work tree that a folder is in; both are absolute paths without links.
+
+    Raises GitError if there is no `.git` in the folder or above it, if git can't be run, fails or takes another folder for the
+    top, or if `.git` points to a repository among the files of the outermost work tree around the folder.
+    """
     tops = [it for it in _above(folder) if os.path.lexists(os.path.join(it, ".git"))]
     if not tops:
         raise GitError(f"{folder} is in no work tree of git")
@@ -68,7 +73,7 @@ def work_tree(folder: str) -> str:
 
 
 def _above(folder: str) -> List[str]:
-    """The folder and all folders above it, the nearest first."""
+    """Returns the folder, an absolute path, and all folders above it, the nearest first."""
     found = [folder]
     while os.path.dirname(found[-1]) != found[-1]:
         found.append(os.path.dirname(found[-1]))
@@ -76,17 +81,21 @@ def _above(folder: str) -> List[str]:
 
 
 def _is_pointer(entry: str) -> bool:
-    """Whether an entry `.git` only says where the repository is, as in a submodule."""
+    """Returns whether the path `entry`, a `.git`, is a file or a link, which only says where the repository is."""
     return os.path.islink(entry) or os.path.isfile(entry)
 
 
 def _poses(repository: str, outermost: str) -> bool:
-    """Whether a repository lies among the files of the outermost work tree, so that it may have been committed with them."""
+    """Returns whether a repository is the folder `outermost` or lies in it, and no part of its path from there is `.git`."""
     inside = os.path.relpath(repository, outermost).split(os.sep)
     return inside[0] != os.pardir and ".git" not in inside
 
 
 def _run(top: str, *words: str) -> str:
+    """Runs git with these words in the folder `top`, with SETTINGS and `environment`, and returns its standard output.
+
+    Raises GitError if git isn't on the PATH, can't be run, ends with a status other than 0, or takes longer than SECONDS.
+    """
     git = on_path("git")
     if git is None:
         raise GitError("git isn't on the PATH")
@@ -105,7 +114,11 @@ def _run(top: str, *words: str) -> str:
 
 
 def _reason(top: str, said: str) -> str:
-    """A line that says why git refused."""
+    """Returns a line that says why git refused in the folder `top`; `said` is what it wrote to standard error.
+
+    If another user owns the folder, the line says how to trust it; otherwise it is the first line of `said` that isn't blank,
+    or says that there is none.
+    """
     if "dubious ownership" in said or "unsafe repository" in said:
         return f"another user owns {top} (dubious ownership); if you trust that user: {SAFE_DIRECTORY} {top}"
     lines = [it for it in said.splitlines() if it.strip()]

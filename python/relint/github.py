@@ -11,7 +11,10 @@ from .writing import workflow_command
 
 
 def line(level: str, entry: Entry, title: str, message: str) -> str:
-    """Returns a line for a build server; `level` is error, warning or notice."""
+    """Returns a line that shows a title and a message at the place of an entry, or for its file if it has no place.
+
+    `level` is error, warning or notice.
+    """
     properties = [("file", entry.path)]
     if entry.place:
         properties += [("line", str(entry.place.line)), ("col", str(entry.place.column))]
@@ -19,6 +22,10 @@ def line(level: str, entry: Entry, title: str, message: str) -> str:
 
 
 def _message(found: Finding) -> str:
+    """Returns what is known of a finding, in lines: its cost, the parts at fault, a command that shows it, and the offers.
+
+    An offer has its kind, its pattern, the class of that pattern, and words on the offer. What isn't known is left out.
+    """
     parts = [found.words()]
     fault = found.fault_words()
     if fault:
@@ -32,7 +39,10 @@ def _message(found: Finding) -> str:
 
 
 def finding_line(found: Finding) -> str:
-    """Returns the line for a finding: an error if it is exponential, otherwise a warning."""
+    """Returns the line for a finding: an error if its class is exponential, otherwise a warning.
+
+    If the uses are known, its class is the worst one under them. The line has all that is known of the finding.
+    """
     verdict = found.judged.verdict()
     word = plain.class_word(verdict) if verdict else found.judged.kind
     if found.entry.beyond is not None:
@@ -42,7 +52,7 @@ def finding_line(found: Finding) -> str:
 
 
 def short_line(entry: Entry) -> str:
-    """Returns the line for a finding that is shown only with its class."""
+    """Returns the line for a finding that is shown only with its class: an error if it is exponential, else a warning."""
     verdict = entry.verdict()
     word = plain.class_word(verdict) if verdict else entry.kind
     if entry.beyond is not None:
@@ -52,10 +62,13 @@ def short_line(entry: Entry) -> str:
 
 
 def notice_line(entry: Entry) -> str:
-    """Returns the line for an entry that wasn't decided or analysed."""
+    """Returns the line for an entry that is undecided or wasn't judged: a notice that says why."""
     return line("notice", entry, f"relint: not analysed ({rules.code(entry)})", plain.outcome_words(entry))
 
 
 def lines(found: Sequence[Finding], short: Sequence[Entry], others: Sequence[Entry]) -> List[str]:
-    """Returns the lines for findings in full, for findings with only their class, and for other entries."""
+    """Returns a line for each entry: the findings `found` in full, the findings `short` with only their class, and `others`.
+
+    `others` are entries that are undecided or weren't judged.
+    """
     return [*map(finding_line, found), *map(short_line, short), *map(notice_line, others)]

@@ -1,6 +1,8 @@
 """Joins reports on parts into the bytes that a single run of relint over all of them writes.
 
-In each of the four layouts, a report has a start, its entries, and an end with the counts. The entries are copied unchanged.
+In each of the four layouts, text, brief, JSON and SARIF, a report has its entries and a frame around them; all but SARIF end
+with counts. The entries are copied unchanged. The layouts text and brief are joined in the same way, so both are called
+"text".
 """
 from __future__ import annotations
 
@@ -24,10 +26,12 @@ class JoinError(Exception):
 
 
 class Piece:
-    """A report taken apart: its layout, its bytes without the frame, and what the frame says.
+    """A report taken apart.
 
-    `counts` are those of the last line of a text, and findings, refused and undecided of a JSON report; `frame` is what all
-    parts of one report share; `findings` counts the findings; `unreadable` says whether an entry is.
+    `layout` is "text", "json" or "sarif". `body` has the bytes of the entries. `counts` are the numbers in the last line of a
+    text, in their order, or those of findings, refused and undecided entries in JSON; SARIF has none. `frame` has the bytes of
+    the frame that have to be the same in all reports that are joined. `findings` is the number of findings; `unreadable` says
+    whether an entry is unreadable.
     """
 
     __slots__ = ("layout", "body", "counts", "frame", "findings", "unreadable")
@@ -35,12 +39,13 @@ class Piece:
     def __init__(
         self, layout: str, body: bytes, counts: Tuple[int, ...], frame: Tuple[bytes, ...], findings: int, unreadable: bool
     ) -> None:
+        """Takes the fields."""
         self.layout, self.body, self.counts, self.frame = layout, body, counts, frame
         self.findings, self.unreadable = findings, unreadable
 
 
 def take_apart(report: bytes) -> Piece:
-    """Takes a report apart. Raises JoinError if it has none of the four layouts."""
+    """Returns a report of relint, taken apart. Raises JoinError if it has none of the four layouts."""
     piece = _json_piece(report) or _sarif_piece(report) or _text_piece(report)
     if piece is None:
         raise JoinError("these bytes are no whole report of relint check")
@@ -48,7 +53,10 @@ def take_apart(report: bytes) -> Piece:
 
 
 def join(pieces: Sequence[Piece]) -> bytes:
-    """Returns the joined report. Raises JoinError if the pieces have different layouts, or if there are none."""
+    """Returns the joined report, with the entries of the pieces in order and the sums of their counts.
+
+    Raises JoinError if there are no pieces, or if their layouts, frames or numbers of counts differ.
+    """
     if not pieces:
         raise JoinError("there is no report to join")
     first = pieces[0]
@@ -66,7 +74,10 @@ def join(pieces: Sequence[Piece]) -> bytes:
 
 
 def join_statuses(statuses: Sequence[int]) -> int:
-    """Returns the status that wins in relint's order. A status that relint never has wins over all others."""
+    """Returns the one of the statuses that comes first in STATUS_ORDER; 0 if there are no statuses.
+
+    A status that isn't in STATUS_ORDER wins over all others; of several, the first.
+    """
     for status in statuses:
         if status not in STATUS_ORDER:
             return status
@@ -74,14 +85,17 @@ def join_statuses(statuses: Sequence[int]) -> int:
 
 
 def status_of(pieces: Sequence[Piece]) -> int:
-    """Returns the status of a run with these reports, as far as they show it: 3, 1 or 0."""
+    """Returns relint's status for these reports: 3 if an entry is unreadable, 1 if there are findings, otherwise 0."""
     if any(it.unreadable for it in pieces):
         return 3
     return 1 if any(it.findings for it in pieces) else 0
 
 
 def _numbers(text: bytes, behind: Sequence[bytes]) -> Optional[Tuple[int, ...]]:
-    """The numbers in a text that has one number before each of these texts; None if it has another form."""
+    """Returns the numbers in `text` if it is a number and the first of `behind`, a number and the second, and so on.
+
+    For `3 a4 b` and the texts ` a` and ` b`, that is (3, 4). Returns None if it has another form, or anything after the last.
+    """
     found: List[int] = []
     for it in behind:
         digits, mark, text = text.partition(it)
@@ -92,6 +106,7 @@ def _numbers(text: bytes, behind: Sequence[bytes]) -> Optional[Tuple[int, ...]]:
 
 
 def _json_piece(report: bytes) -> Optional[Piece]:
+    """Returns a report in the layout JSON, taken apart, or None if it is none. Its frame is the report version."""
     if not report.startswith(JSON_START):
         return None
     body, mark, end = report[len(JSON_START):].rpartition(JSON_END)
@@ -102,6 +117,7 @@ def _json_piece(report: bytes) -> Optional[Piece]:
 
 
 def _sarif_piece(report: bytes) -> Optional[Piece]:
+    """Returns a report in the layout SARIF, taken apart, or None if it is none. Its frame is all but the entries."""
     start, mark, rest = report.partition(SARIF_RESULTS)
     body, end_mark, end = rest.rpartition(SARIF_END)
     if not (mark and end_mark and _begins_sarif(start) and end.endswith(b'"version":"2.1.0"}\n')):
@@ -111,7 +127,7 @@ def _sarif_piece(report: bytes) -> Optional[Piece]:
 
 
 def _begins_sarif(start: bytes) -> bool:
-    """Whether this can be the start of a SARIF report; it may tell the kind of its columns."""
+    """Returns whether the bytes before the results can begin a SARIF report: SARIF_START, then at most a `columnKind`."""
     if not start.startswith(SARIF_START):
         return False
     said = start[len(SARIF_START):]
@@ -119,6 +135,10 @@ def _begins_sarif(start: bytes) -> bool:
 
 
 def _text_piece(report: bytes) -> Optional[Piece]:
+    """Returns a report in the layout text or brief, taken apart, or None if its last line isn't one of counts.
+
+    Its frame is empty.
+    """
     start = report.rfind(b"\n", 0, max(len(report) - 1, 0)) + 1
     counts = _numbers(report[start:], COUNTED) or _numbers(report[start:], COUNTED_WITH_HIDDEN)
     if counts is None:
@@ -128,5 +148,6 @@ def _text_piece(report: bytes) -> Optional[Piece]:
 
 
 def _counts_line(counts: List[int]) -> bytes:
+    """Returns the last line of a report in text; it counts entries, findings, refused, undecided and, if given, hidden."""
     line = b"%d entries, %d findings, %d refused, %d undecided" % tuple(counts[:4])
     return line + (b", %d hidden" % counts[4] if len(counts) == 5 else b"") + b"\n"

@@ -3,7 +3,8 @@
 A run that takes too long is ended, and its files are tried in parts, then one by one. A file that takes too long by itself is
 judged call by call: relint is given a copy in which the literals of all other calls are replaced by trivial ones of the same
 length, so its answer for the remaining call is the same as in the whole file. A call that takes too long even then gets an
-entry of the kind `time`.
+entry of the kind `time`. The calls meant here are those of `re` with a pattern, which relint judges. An answer is the report
+of a run and its exit status.
 """
 from __future__ import annotations
 
@@ -30,7 +31,9 @@ FILES_OF_THE_SECONDS = 1000
 # As multiples of the seconds of a file: how long a quick run over some of its calls may take, and all runs together.
 QUICKLY, SECONDS_OF_CALLS = 0.1, 2.0
 CALLS_OF_A_PART = 16
+# Matches one piece of the inside of a literal: a line end, with a backslash before it if there is one, or another character.
 LETTER = re.compile(r"(\\\r\n|\\[\r\n]|\r\n|[\r\n])|.", re.S)
+# Matches a comment or the opening quotes of a literal.
 TOKEN = re.compile(r"""#[^\r\n]*|(?:\"\"\"|''')|["']""")
 ESCAPED = r"\\(?:\r\n|.)"
 # For each kind of quotes, matches the rest of a literal from after its opening quotes to after its closing quotes.
@@ -48,75 +51,76 @@ STATUS_WORDS = {
 
 
 class Answered(NamedTuple):
-    """A report, and the status that relint had with it."""
+    """A report, and the exit status of relint that goes with it."""
 
     report: Report
     status: int
 
 
 class JudgeError(Exception):
-    """Raised if a run gave no report; the message says why, and `status` is the exit status of the run."""
+    """Raised if a run gave no report that can be read; the message says why.
+
+    `status` is the exit status of the run, or REFUSED if that is 0.
+    """
 
     def __init__(self, message: str, status: int) -> None:
+        """Takes the message and the exit status."""
         super().__init__(message)
         self.status = status
 
 
 @dataclass(frozen=True)
 class Limits:
-    """Seconds for each file, and for all of them together."""
+    """The limits of time: `seconds` for each file, and `total` seconds for all of them together."""
 
     seconds: float = SECONDS
     total: float = TOTAL_SECONDS
 
 
 class Judge:
-    """Runs `relint check` with options, and ends runs that take too long.
+    """Runs `relint check` with options, and ends runs that take too long. The total time begins when it is created."""
 
-    The baseline is given apart from the options, because it isn't used on a file that is judged call by call.
-    """
-
-    def __init__(self, options: Sequence[str], baseline: Optional[str], limits: Limits) -> None:
+    def __init__(self, options: Sequence[str], limits: Limits) -> None:
+        """Takes the options of relint, without a baseline, and the limits of time."""
         self.options = list(options)
-        self._hidden = [f"--baseline={baseline}"] if baseline is not None else []
         self.limits = limits
         self._until = time.monotonic() + limits.total
 
-    def answers(self, words: Sequence[str], files: Sequence[str]) -> Iterator[Answered]:
-        """Runs relint with `words`, which name exactly these files; yields one answer, or several if that took too long.
+    def answers(self, files: Sequence[str]) -> Iterator[Answered]:
+        """Runs relint over the files, at least one, and yields one answer, or several if the run takes too long.
 
-        The answers are in the order of the files. Raises JudgeError if relint gave no report, and ProgramError if it can't
-        be run.
+        The answers are in the order of the files; what couldn't be judged in time has entries of the kind `time`. Raises
+        JudgeError if relint gave no report, and ProgramError if it can't be run.
         """
-        seconds = self.limits.seconds * (1 + len(files) / FILES_OF_THE_SECONDS)
-        answer = self.run([*self.options, *self._hidden], words, seconds)
+        answer = self.run(files, self.limits.seconds * (1 + len(files) / FILES_OF_THE_SECONDS))
         if answer is not None:
             yield answer
         elif len(files) == 1:
             yield self._in_parts(files[0])
-        elif not files:
-            yield unjudged([Entry(it, "time") for it in words])
         else:
             size = FILES_OF_A_PART if len(files) > FILES_OF_A_PART else 1
             for at in range(0, len(files), size):
-                yield from self.answers(files[at:at + size], files[at:at + size])
+                yield from self.answers(files[at:at + size])
 
-    def run(self, options: Sequence[str], paths: Sequence[str], seconds: float) -> Optional[Answered]:
-        """Returns the answer of one run, or None if it took longer than `seconds` or than the time that is left in total.
+    def run(self, paths: Sequence[str], seconds: float) -> Optional[Answered]:
+        """Returns the answer of one run over the paths; None if it takes longer than `seconds` or than the total time left.
 
-        Raises JudgeError and ProgramError.
+        Raises JudgeError if relint gave no report, and ProgramError if it can't be run.
         """
         left = min(seconds, self._until - time.monotonic())
         if left <= 0:
             return None
         try:
-            answer = program.run(["check", "--format", "json", *options, "--", *paths], seconds=left)
+            answer = program.run(["check", "--format", "json", *self.options, "--", *paths], seconds=left)
         except program.TookLong:
             return None
         return read_answer(answer)
 
     def _in_parts(self, path: str) -> Answered:
-        """The answer for a file that took too long as a whole, judged call by call."""
+        """Returns the answer for a file that took too long as a whole, judged call by call.
+
+        If the file can't be read or isn't UTF-8, it gets one entry of the kind `time`. Raises the same as `run`.
+        """
         try:
             text = Source(read_below(path, [path])).text
         except (OpenError, SourceError):
@@ -126,9 +130,16 @@ class Judge:
 
 
 class _Parts:
-    """A file whose calls are judged in parts, in the copy `copy`."""
+    """A file whose calls are judged some at a time, in a copy. A call is given by its number in `sites`, from 0.
+
+    `path` and `source` are those of the file. `sites` has an entry for each call, and `starts` the offset of its pattern's
+    first literal; both are empty until `answer` has found the calls. `literals` has the span between
+    the quotes of each string literal. `seconds` is the limit for a file, and `until` the time of `time.monotonic` after which
+    no run goes on. `copy` is the path of the copy.
+    """
 
     def __init__(self, judge: Judge, path: str, text: str, copy: str) -> None:
+        """Takes the path and the text of the file, and the path to which the copy is written; `judge` runs relint."""
         self.judge, self.path, self.copy = judge, path, copy
         self.source = Source(text.encode("utf-8", "surrogatepass"))
         self.literals = list(literals(text))
@@ -138,7 +149,11 @@ class _Parts:
         self.sites: List[Entry] = []
 
     def answer(self) -> Answered:
-        """The answer for the whole file; calls that aren't judged in time have an entry of the kind `time`."""
+        """Returns the answer for the whole file; calls that aren't judged in time have an entry of the kind `time`.
+
+        If even a quick run that only finds the calls takes too long, or gives an entry without a call, there is only one such
+        entry, for the file itself. Raises the same as `Judge.run`.
+        """
         found = self.judged([], self.seconds * QUICKLY)
         if found is None or not all(it.place and it.call for it in found.report.entries):
             return unjudged([Entry(self.path, "time")])
@@ -148,7 +163,7 @@ class _Parts:
         answers: List[Answered] = []
         # (the quick calls come first, so that the slow ones can't use up their time)
         for size, seconds in ((CALLS_OF_A_PART, self.seconds * QUICKLY), (1, self.seconds * QUICKLY), (1, self.seconds)):
-            numbers = self.left_of(numbers, size, seconds, answers)
+            numbers = self.too_slow(numbers, size, seconds, answers)
         if numbers:
             answers.append(unjudged([Entry(self.path, "time", self.sites[it].place, self.sites[it].call) for it in numbers]))
         whole = joined(answers)
@@ -156,26 +171,30 @@ class _Parts:
         entries = tuple(sorted(whole.report.entries, key=lambda it: order.get(it.place, 0)))
         return Answered(replace(whole.report, entries=entries), whole.status)
 
-    def left_of(self, numbers: List[int], size: int, seconds: float, answers: List[Answered]) -> List[int]:
-        """Judges the calls with these numbers, `size` at a time; returns the numbers of those that took too long.
+    def too_slow(self, numbers: List[int], size: int, seconds: float, answers: List[Answered]) -> List[int]:
+        """Judges the calls with these numbers, `size` in each run; returns the numbers of those whose run took too long.
 
-        The answers of the others are added to `answers`.
+        A run may take `seconds`, or the time left if that is less. The answers of the other runs are added to `answers`.
         """
-        left: List[int] = []
+        slow: List[int] = []
         for at in range(0, len(numbers), size):
             part = numbers[at:at + size]
             answer = self.judged(part, seconds)
             if answer is None:
-                left += part
+                slow += part
             else:
                 answers.append(answer)
-        return left
+        return slow
 
     def judged(self, numbers: Sequence[int], seconds: float) -> Optional[Answered]:
-        """The answer for these calls, with the literals of all others made trivial; None if relint takes too long."""
+        """Writes the copy, with all literals made trivial except those of the calls with these numbers, and judges it.
+
+        Returns the answer with the entries of these calls, or of all calls if no numbers are given; None if relint takes
+        longer than `seconds`, or than the time that is left for the file. Raises the same as `Judge.run`.
+        """
         with open(self.copy, "wb") as out:
             out.write(self.text_with(set(numbers)).encode("utf-8", "surrogatepass"))
-        answer = self.judge.run(self.judge.options, [self.copy], min(self.until - time.monotonic(), seconds))
+        answer = self.judge.run([self.copy], min(self.until - time.monotonic(), seconds))
         if answer is None:
             return None
         places = {self.sites[it].place for it in numbers}
@@ -184,9 +203,9 @@ class _Parts:
         return Answered(report_of(entries, answer.report.findings, answer.report.version), answer.status)
 
     def text_with(self, numbers: "set[int]") -> str:
-        """The source with the literals of all other calls made trivial.
+        """Returns the source with all literals made trivial except those of the calls with these numbers.
 
-        A literal belongs to the last call that begins before it ends.
+        A literal belongs to the last call whose pattern begins before the literal ends; one before all patterns to no call.
         """
         parts, at, call = [], 0, -1
         text = self.source.text
@@ -199,9 +218,9 @@ class _Parts:
 
 
 def literals(text: str) -> Iterator[Tuple[int, int]]:
-    """Yields the span between the quotes of each string literal of a source, found in the same way as relint finds them.
+    """Yields the span between the quotes of each string literal of a source, in order; comments are skipped.
 
-    Ends early at a literal without closing quotes.
+    A span is two offsets, counted in characters from 0. A literal without closing quotes isn't yielded, and ends the search.
     """
     at = 0
     while True:
@@ -218,9 +237,10 @@ def literals(text: str) -> Iterator[Tuple[int, int]]:
 
 
 def trivial(inside: str) -> str:
-    """Returns a trivial text to put between the quotes of a literal: of the same length, with the same line ends.
+    """Returns a trivial text to put between the quotes of a literal in place of `inside`.
 
-    As a pattern, its first branch is empty, so it takes a bounded number of steps and is judged at once.
+    It has the same length and the same line ends, with the backslashes before them. All other characters become `|`, but most
+    of them are put into a comment, as in `||(?#xx)`, if there are enough. Where there is a `|`, it has an empty branch.
     """
     made = ["|" if found.group(1) is None else found.group(1) for found in LETTER.finditer(inside)]
     front = made.index("|") + 1 if "|" in made else len(made)
@@ -235,18 +255,25 @@ def trivial(inside: str) -> str:
 
 
 def unjudged(entries: Sequence[Entry]) -> Answered:
-    """Returns the answer for entries that weren't judged in time."""
+    """Returns an answer with these entries, which weren't judged: with the status TREE_FAULT, no findings and version 2."""
     return Answered(report_of(entries, 0, 2), program.TREE_FAULT)
 
 
 def report_of(entries: Sequence[Entry], findings: int, version: int) -> Report:
-    """Returns a report with these entries; `findings` is how many of them are findings."""
+    """Returns a report of this version with these entries; `findings` is how many are findings.
+
+    Its other numbers are counted: `refused` of the entries that weren't judged, whatever the reason, and `undecided`.
+    """
     refused = sum(not it.is_judged() for it in entries)
     return Report(tuple(entries), findings, refused, sum(it.kind == "undecided" for it in entries), version)
 
 
 def joined(answers: Sequence[Answered]) -> Answered:
-    """Returns one answer with the entries of several, and with the status that wins among theirs."""
+    """Returns one answer with the entries of several in order, the sums of their counts, and the status that wins.
+
+    `join_statuses` says which one wins. The version is the greatest. Without answers, the report is empty, of version 2, and
+    the status is 0.
+    """
     reports = [it.report for it in answers]
     whole = Report(
         tuple(entry for report in reports for entry in report.entries),
@@ -259,12 +286,16 @@ def joined(answers: Sequence[Answered]) -> Answered:
 
 
 def read_answer(answer: program.Answer) -> Answered:
-    """Returns the report that a run wrote, with the run's status. Raises JudgeError if it wrote none that can be read."""
+    """Returns the report that a run wrote, with the run's status.
+
+    Raises JudgeError if the run wrote no report that can be read, or has a status that isn't in STATUS_ORDER. Its message says
+    why the report can't be read, or is the last line that relint wrote to standard error, or else words for the status.
+    """
     if answer.out and answer.status in STATUS_ORDER:
         try:
             return Answered(read_report(answer.out), answer.status)
         except ReportError as error:
             raise JudgeError(f"relint's report can't be read: {error}", answer.status or program.REFUSED) from error
     said = answer.err.decode("utf-8", "replace").strip().splitlines()
-    told = said[-1] if said and not said[0].startswith("usage:") else STATUS_WORDS.get(answer.status, "")
-    raise JudgeError(told or f"relint ended with status {answer.status}", answer.status or program.REFUSED)
+    words = said[-1] if said and not said[0].startswith("usage:") else STATUS_WORDS.get(answer.status, "")
+    raise JudgeError(words or f"relint ended with status {answer.status}", answer.status or program.REFUSED)

@@ -1,4 +1,4 @@
-"""What a baseline says of the findings of a run, whose patterns are read from the sources."""
+"""Compares the findings of a run with a baseline; their patterns are read from the sources."""
 from __future__ import annotations
 
 from typing import List, Optional, Sequence, Set
@@ -14,7 +14,10 @@ def split_of(
     file: str, report: Report, findings: Sequence[Entry], selection: Optional[Selection], sources: Sources,
     kinds: Sequence[str] = (),
 ) -> Split:
-    """Returns what the baseline in a file says of the findings of a report. Raises BaselineError."""
+    """Returns the findings of a report compared with the baseline in a file; the arguments are as in `split_by`.
+
+    Raises BaselineError if the baseline can't be used.
+    """
     return split_by(read_baseline(file), report, findings, selection, sources, kinds)
 
 
@@ -22,21 +25,32 @@ def split_by(
     baseline: Baseline, report: Report, findings: Sequence[Entry], selection: Optional[Selection], sources: Sources,
     kinds: Sequence[str] = (),
 ) -> Split:
-    """Returns what a baseline says of the findings of a report; `kinds` are those of relint-wide that were looked for."""
+    """Returns `findings`, the findings of a report, compared with a baseline.
+
+    `selection` has the files that were looked at; if it is None, these are the files that the report names. `kinds` are the
+    kinds of findings of relint-wide that were looked for. The patterns of the findings are read from `sources`; a finding
+    whose pattern can't be read is new.
+    """
     found = [baseline.found(it, site_of(sources, it)[1]) for it in findings]
     looked_at = _looked_at(baseline.folder, report, selection)
     return split(baseline, found, lambda it: it.path in looked_at and (not it.beyond or it.beyond in kinds))
 
 
 def _looked_at(folder: str, report: Report, selection: Optional[Selection]) -> Set[str]:
-    """The paths, from a folder, of the files whose patterns the report tells."""
+    """Returns the paths, relative to `folder`, of the files of the selection or, if that is None, of those in the report.
+
+    A file for which the report has an entry without a call, such as an unreadable one, isn't among them.
+    """
     files = [*selection.files, *selection.notebooks] if selection else [it.path for it in report.entries]
     lost = {it.path for it in report.entries if it.call is None}
     return {relative(it, folder) for it in files if it not in lost}
 
 
 def stale_lines(file: str, said: Split) -> List[str]:
-    """Returns a line for each entry of the baseline that accepts nothing any more."""
+    """Returns a line for each entry of the baseline that accepts nothing any more, moved ones last, and one on what to do.
+
+    Returns no lines if no entry is stale or moved. `file` is the path of the baseline, and `said` the comparison with it.
+    """
     name = visible(file)
     lines = [f"{name}: no longer found: {it.words()}" for it in said.stale]
     for it in said.moved:

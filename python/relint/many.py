@@ -47,22 +47,24 @@ COST_OF_A_FILE = 8192
 
 
 class WordsError(Exception):
-    """Raised if the command line isn't valid, or names a file that can't be used; the message says why."""
+    """Raised if the command line isn't valid, or names a file that can't be read or written; the message says why."""
 
 
 class Stopped(BaseException):
-    """Raised if a signal asks the tool to end; its number is the argument."""
+    """Raised if SIGINT, SIGTERM or SIGHUP asks the tool to end; the argument is the number of the signal."""
 
 
 class Given:
     """What the command line asks for.
 
-    `own` has the values of this tool's own options. `relint` has the words for relint; `options` and `paths` are parsed from
-    them. `plain` says that relint accepts these words. If it isn't set, relint is run with them, and says why it refuses
-    them.
+    `own` has the values of this tool's own options. `relint` has the words for relint as they were given; `options`, which has
+    the values of relint's options, and `paths` are parsed from them. `joins`, `helps` and `asks_version` say whether --join,
+    --help and --version are given. `plain` is False if relint may refuse its words; then a single run of relint gets them, and
+    says why.
     """
 
     def __init__(self) -> None:
+        """Makes the value of an empty command line."""
         self.paths: List[str] = []
         self.relint: List[str] = []
         self.own: Dict[str, str] = {}
@@ -71,7 +73,10 @@ class Given:
         self.plain = True
 
     def number(self, option: str, default: int) -> int:
-        """Returns the number that an option of this tool has. Raises WordsError if it isn't a number from 1 to 999999."""
+        """Returns the number that an option of this tool has, or `default` if it isn't given.
+
+        Raises WordsError if it isn't a number from 1 to 999999.
+        """
         text = self.own.get(option, str(default))
         if not (text.isascii() and text.isdigit() and 1 <= int(text) <= 999_999):
             raise WordsError(f"{option} takes a number from 1 to 999999, not {text!r}")
@@ -79,7 +84,11 @@ class Given:
 
 
 def read_words(words: Sequence[str]) -> Given:
-    """Reads the command line: this tool's own options, and the words for relint, which are read as relint reads them."""
+    """Returns what the command line asks for: by this tool's own options, and by the words for relint.
+
+    A word that is no known option counts as a path, as do all words after `--`. If an option of this tool has no value, that
+    is ""; if one is given twice, the last value counts. No word is refused here, but `plain` may become False.
+    """
     given = Given()
     left = iter(words)
     for word in left:
@@ -104,7 +113,10 @@ def read_words(words: Sequence[str]) -> Given:
 
 
 def _take_option(given: Given, word: str, left: Iterator[str]) -> None:
-    """Adds an option of relint, with its value from the next word if it has none after `=`."""
+    """Adds the option of relint that begins with `word` to `given`; if it has no `=`, its value is the next word of `left`.
+
+    `plain` becomes False if the option was given before, or if that next word is missing or begins with `-` and isn't `-`.
+    """
     name, equals, value = word.partition("=")
     given.relint.append(word)
     if not equals:
@@ -117,6 +129,7 @@ def _take_option(given: Given, word: str, left: Iterator[str]) -> None:
 
 
 def _is_utf8(word: str) -> bool:
+    """Returns whether a word of the command line can be encoded as UTF-8."""
     try:
         word.encode("utf-8")
     except UnicodeEncodeError:
@@ -125,7 +138,11 @@ def _is_utf8(word: str) -> bool:
 
 
 def check(given: Given) -> int:
-    """Writes the report on the paths, and returns the status that a single run has. Raises WordsError and ProgramError."""
+    """Writes the report on the paths, and returns the exit status of relint, or WRITE_FAULT if that can't be written.
+
+    Raises WordsError if the command line isn't valid or the file of --from can't be used, and ProgramError if relint can't be
+    run.
+    """
     jobs = given.number("--jobs", len(os.sched_getaffinity(0)) if hasattr(os, "sched_getaffinity") else os.cpu_count() or 1)
     wrong = refused(given.relint, "--from" in given.own)
     if wrong:
@@ -133,8 +150,8 @@ def check(given: Given) -> int:
     named = _names(given)
     ready = ready_program()
     options = [f"{name}={value}" for name, value in given.options.items()]
-    alone = jobs == 1 and "--from" not in given.own
-    if alone or not named or not given.plain or not _can_be_read_again(given):
+    is_one_job = jobs == 1 and "--from" not in given.own
+    if is_one_job or not named or not given.plain or not _can_be_read_again(given):
         return _one_run(ready, given, named, options)
     more = MORE_WITH_A_BASELINE if "--baseline" in given.options else 1
     try:
@@ -149,6 +166,10 @@ def check(given: Given) -> int:
 
 
 def _names(given: Given) -> List[bytes]:
+    """Returns the paths to check, from the command line or the file of --from.
+
+    Raises WordsError if both give paths, or the file can't be used.
+    """
     if "--from" not in given.own:
         return [os.fsencode(it) for it in given.paths]
     if given.paths:
@@ -157,6 +178,10 @@ def _names(given: Given) -> List[bytes]:
 
 
 def _read_names(source: str) -> List[bytes]:
+    """Returns the paths in the file `source`, or on standard input if that is `-`; each one ends with a byte 0.
+
+    Raises WordsError if it can't be read, has more than LARGEST bytes, or isn't in this form.
+    """
     try:
         # (it may be a pipe)
         with sys.stdin.buffer if source == "-" else open(source, "rb") as stream:
@@ -174,7 +199,7 @@ def _read_names(source: str) -> List[bytes]:
 
 
 def _can_be_read_again(given: Given) -> bool:
-    """Whether the settings and the baseline are regular files, which every run can read, or missing."""
+    """Returns whether --settings and --baseline, if given, name regular files, or paths that can't be looked up."""
     for option in ("--settings", "--baseline"):
         path = given.options.get(option)
         try:
@@ -186,9 +211,10 @@ def _can_be_read_again(given: Given) -> bool:
 
 
 def ready_program() -> str:
-    """Returns the program to run.
+    """Returns the path of the program relint, after one run of it. Raises ProgramError if it isn't there or isn't relint.
 
-    In a clone, the script `relint` is asked once, so that it builds the program if need be; then the program itself is run.
+    In a clone, that is the script `relint`, which builds the program in that run if need be. Then the path of the program that
+    the script noted is returned, or the script's own if there is no such note or the script wrote to standard error.
     """
     found = program()
     top, name = os.path.split(found)
@@ -198,7 +224,10 @@ def ready_program() -> str:
 
 
 def _noted_program(top: str) -> Optional[str]:
-    """The program that the script of a clone noted as the one that it runs; None if there is no such note."""
+    """Returns the path of the program that the script of a clone, whose top folder is `top`, noted as the one that it runs.
+
+    Returns None if the note can't be read, the program isn't an executable file, or the folder of the note can't be written.
+    """
     folder = os.path.join(top, "crates", "relint", "out")
     try:
         with open(os.path.join(folder, "stamp"), encoding="utf-8") as stamp:
@@ -210,7 +239,11 @@ def _noted_program(top: str) -> Optional[str]:
 
 
 def _one_run(ready: str, given: Given, named: Sequence[bytes], options: Sequence[str]) -> int:
-    """Lets a single run of relint do everything, and returns its status."""
+    """Lets a single run of relint do everything, and returns its status.
+
+    It gets the words as they were given. With --from, it gets `options` and the paths `named` instead or, if there are no
+    paths, an empty folder. `ready` is the path of the program. Raises ProgramError if it can't be run.
+    """
     if "--from" not in given.own:
         return _run_through([ready, "check", *given.relint])
     import tempfile
@@ -221,7 +254,11 @@ def _one_run(ready: str, given: Given, named: Sequence[bytes], options: Sequence
 
 
 def _run_through(words: Sequence[str]) -> int:
-    """Runs the program with this tool's own input and outputs, and returns its status. Raises ProgramError."""
+    """Runs the program `words[0]` with the other words, and this tool's input and outputs; returns its status.
+
+    The status is 128 plus its number if a signal ended it. Raises ProgramError if the program can't be run. If Stopped is
+    raised meanwhile, the program is ended, and Stopped goes on to the caller.
+    """
     pid = 0
     try:
         with Held() as held:
@@ -237,7 +274,11 @@ def _run_through(words: Sequence[str]) -> int:
 
 
 def _write(answer: Answer) -> int:
-    """Writes an answer to both outputs, and returns its status, or WRITE_FAULT."""
+    """Writes the outputs of an answer to standard error and standard output, and returns its status.
+
+    If standard output can't be written, a line on standard error says so, and WRITE_FAULT is returned. That standard error
+    can't be written is ignored.
+    """
     if answer.err:
         _write_to(2, answer.err)
     if not _write_to(1, answer.out):
@@ -247,7 +288,7 @@ def _write(answer: Answer) -> int:
 
 
 def _write_to(output: int, data: bytes) -> bool:
-    """Writes all bytes to an output; returns False if that fails."""
+    """Writes all bytes to the descriptor `output`, and returns True, or False if there is an error; some may be written."""
     left = memoryview(data)
     try:
         while left:
@@ -258,7 +299,11 @@ def _write_to(output: int, data: bytes) -> bool:
 
 
 def write_lists(given: Given) -> int:
-    """Writes the paths of the files to lists, prints the names of the lists, and returns 0. Raises WordsError."""
+    """Writes the paths that relint would check to at most --list lists, prints the names of the lists, and returns 0.
+
+    A list has the form of --from; there are none without paths to check. Raises WordsError if the command line isn't valid, a
+    folder lies too deep, the folder for the lists isn't empty, or the lists can't be written.
+    """
     if given.options or not given.paths or not given.plain:
         raise WordsError("--list takes paths and no options of relint: give those where the lists are checked")
     from pathlib import Path
@@ -287,7 +332,7 @@ def write_lists(given: Given) -> int:
 
 
 def _evenly(paths: Sequence[bytes], count: int) -> Iterator[List[bytes]]:
-    """Yields the paths in at most `count` parts of about the same work."""
+    """Yields the paths in order, in at most `count` parts of about the same work, none of them empty; none without paths."""
     costs = [_cost(it) for it in paths]
     total, before = sum(costs), 0
     part: List[bytes] = []
@@ -303,7 +348,7 @@ def _evenly(paths: Sequence[bytes], count: int) -> Iterator[List[bytes]]:
 
 
 def _cost(path: bytes) -> int:
-    """The work for a file, in bytes."""
+    """Returns the work for a path: COST_OF_A_FILE, plus the size in bytes if it is a regular file that can be looked up."""
     try:
         found = os.lstat(path)
     except OSError:
@@ -312,7 +357,11 @@ def _cost(path: bytes) -> int:
 
 
 def join_reports(given: Given) -> int:
-    """Joins the reports, writes the result, and returns the status that the reports show. Raises WordsError."""
+    """Joins the reports in the files that are named, in order, and writes the result to standard output.
+
+    Returns the status as `status_of` gives it, or WRITE_FAULT if standard output can't be written.
+    Raises WordsError if the command line isn't valid, or if a report can't be read or joined to the others.
+    """
     if given.options or given.own or not given.paths:
         raise WordsError("--join takes reports and no options")
     pieces = [_read_piece(it) for it in given.paths]
@@ -323,6 +372,7 @@ def join_reports(given: Given) -> int:
 
 
 def _read_piece(path: str) -> Piece:
+    """Returns the report in a file, taken apart. Raises WordsError if it can't be read or isn't a report of relint."""
     try:
         return take_apart(read_named(path, LARGEST))
     except OpenError as error:
@@ -332,18 +382,22 @@ def _read_piece(path: str) -> Piece:
 
 
 def _stop(number: int, _: Optional[FrameType]) -> None:
+    """Handles a signal with this number: raises Stopped with the number."""
     raise Stopped(number)
 
 
 def _said(text: str) -> int:
-    """Writes a text about this tool to standard output, and returns the status."""
-    from .output import whole
+    """Writes a text about this tool to standard output, and returns 0, or WRITE_FAULT if that fails."""
+    from .output import write_whole
 
-    return whole("relint-many", text)
+    return write_whole("relint-many", text)
 
 
 def _act(given: Given) -> int:
-    """Does what the command line asks for, and returns the status."""
+    """Does what the command line asks for, and returns the exit status.
+
+    Raises WordsError if the command line isn't valid or a file can't be used, and ProgramError if relint can't be run.
+    """
     if given.helps:
         return _said(USAGE)
     if given.asks_version:
@@ -360,7 +414,11 @@ def _act(given: Given) -> int:
 
 
 def main() -> int:
-    """Runs the tool with the words of the command line, and returns its exit status."""
+    """Runs the tool with the words in `sys.argv`, and returns the exit status.
+
+    That is REFUSED, with a line on standard error, if the command line isn't valid, a file can't be used or relint can't be
+    run, and 128 plus its number if SIGINT, SIGTERM or SIGHUP ends the tool.
+    """
     for number in STOPPING:
         # (a signal that was ignored from the start, as under nohup, stays ignored)
         if signal.getsignal(number) != signal.SIG_IGN:

@@ -32,9 +32,9 @@ class OpenError(Exception):
 
 
 def names_below(path: str, folder: str) -> Optional[List[str]]:
-    """Returns the names that lead from a folder to a path, none for the folder itself; None if the path lies outside.
+    """Returns the names that lead from a folder to a path, an empty list for the folder itself; None if the path lies outside.
 
-    Only the texts of both are compared; nothing is looked up.
+    Returns None too if the path is empty or has a null character. Only the texts of both are compared; no file is looked up.
     """
     if not path or "\0" in path:
         return None
@@ -46,14 +46,17 @@ def names_below(path: str, folder: str) -> Optional[List[str]]:
 
 
 def is_below(path: str, folders: Sequence[str]) -> bool:
-    """Returns whether a path is one of the folders or lies in one; only the texts are compared."""
+    """Returns whether a path is one of the folders or lies in one; only the texts of the paths are compared.
+
+    Returns False if the path is empty or has a null character.
+    """
     return any(names_below(path, it) is not None for it in folders)
 
 
 def open_folder(folder: str, names: Sequence[str]) -> int:
-    """Opens the folder to which the names lead from another folder, and returns its descriptor.
+    """Opens the folder to which the names lead from `folder`, and returns its descriptor, which the caller closes.
 
-    Raises OSError if it can't be opened, or if one of the names is a link.
+    "" is the current folder; `folder` itself may be a link. Raises OSError if a folder can't be opened, or a name is a link.
     """
     found = os.open(folder or os.curdir, FOLDER)
     for name in names:
@@ -68,8 +71,9 @@ def open_folder(folder: str, names: Sequence[str]) -> int:
 def place_of(path: str, folders: Sequence[str]) -> Tuple[str, List[str]]:
     """Returns a folder to open, and the names from there to the path, at least one.
 
-    The folder is one of those given or, if the path itself is among them, the folder that holds the path. Raises OpenError if
-    the path lies in none of the folders.
+    The folder is the first of `folders` in which the path lies or, if one that is the path itself comes first, the folder that
+    holds that one; "" is the current folder. One that ends with `/` doesn't count as the path itself. Raises OpenError if
+    there is no such folder.
     """
     for folder in folders:
         names = names_below(path, folder)
@@ -81,9 +85,10 @@ def place_of(path: str, folders: Sequence[str]) -> Tuple[str, List[str]]:
 
 
 def read_below(path: str, folders: Sequence[str] = HERE, most: int = LARGEST_SOURCE) -> bytes:
-    """Returns the bytes of a file that lies in one of the folders or is among them.
+    """Returns the bytes of the file at a path that lies in one of the folders or is one of `folders`.
 
-    Raises OpenError if it can't be read, isn't a regular file, has more than `most` bytes, or is reached by a link.
+    Raises OpenError if it lies in none of them, can't be read, isn't a regular file, has more than `most` bytes, or is reached
+    by a link below the folder.
     """
     folder, names = place_of(path, folders)
     try:
@@ -97,7 +102,7 @@ def read_below(path: str, folders: Sequence[str] = HERE, most: int = LARGEST_SOU
 
 
 def read_named(path: str, most: int) -> bytes:
-    """Returns the bytes of a file that the user names, which may be a link.
+    """Returns the bytes of a file that the user names, which may be a link and lie anywhere.
 
     Raises OpenError if it can't be read, isn't a regular file, or has more than `most` bytes.
     """
@@ -113,14 +118,17 @@ def read_named(path: str, most: int) -> bytes:
 
 
 def reason(error: Exception) -> str:
-    """Returns words for why a file can't be opened."""
+    """Returns words for an error: those of REASONS or of the system for an OSError, otherwise the error's message."""
     if isinstance(error, OSError):
         return REASONS.get(error.errno or 0, error.strerror or str(error))
     return str(error)
 
 
 def read_in(holder: int, name: str, most: int) -> bytes:
-    """Returns the bytes of a file in an open folder. Raises OSError, and OpenError as `read_below` does."""
+    """Returns the bytes of the file `name` in the folder with the descriptor `holder`.
+
+    Raises OSError if it can't be read, and OpenError if it is a link, isn't a regular file, or has more than `most` bytes.
+    """
     # (a device isn't even opened, since opening alone can have an effect)
     _check(os.stat(name, dir_fd=holder, follow_symlinks=False), most)
     file = os.open(name, FILE, dir_fd=holder)
@@ -132,6 +140,7 @@ def read_in(holder: int, name: str, most: int) -> bytes:
 
 
 def _check(found: os.stat_result, most: int) -> None:
+    """Raises OpenError if a file with this status is a link, isn't a regular file, or has more than `most` bytes."""
     if stat.S_ISLNK(found.st_mode):
         raise OpenError("it is a link")
     if not stat.S_ISREG(found.st_mode):
@@ -141,7 +150,10 @@ def _check(found: os.stat_result, most: int) -> None:
 
 
 def read_all(file: int, most: int) -> bytes:
-    """Reads the rest of an open file, and returns it. Raises OpenError if that is more than `most` bytes."""
+    """Reads the rest of the file with the descriptor `file`, and returns it.
+
+    Raises OpenError if that is more than `most` bytes, and OSError if it can't be read.
+    """
     parts: List[bytes] = []
     left = most + 1
     while left > 0:

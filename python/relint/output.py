@@ -9,11 +9,14 @@ from .program import WRITE_FAULT
 
 
 class Unwritten(Exception):
-    """Raised if standard output can't be written; the message says why, and is empty if the reader is gone, such as `head`."""
+    """Raised if standard output can't be written; the message says why, and is empty if it is a pipe that nobody reads."""
 
 
 def write(text: Union[str, bytes]) -> None:
-    """Writes to standard output: bytes as they are, or text, with escapes for what can't be encoded. Raises Unwritten."""
+    """Writes to standard output: bytes as they are, or text, with escapes such as \\xe9 for what can't be encoded.
+
+    Bytes are flushed at once; text may wait for `flush`. Raises Unwritten if standard output is closed or can't be written.
+    """
     out = sys.stdout
     if out is None:
         raise Unwritten("it is closed")
@@ -30,7 +33,7 @@ def write(text: Union[str, bytes]) -> None:
 
 
 def flush() -> None:
-    """Flushes standard output. Raises Unwritten."""
+    """Flushes standard output; does nothing if `sys.stdout` is None. Raises Unwritten if it can't be written."""
     try:
         if sys.stdout is not None:
             sys.stdout.flush()
@@ -39,6 +42,10 @@ def flush() -> None:
 
 
 def _unwritten(error: Exception) -> Unwritten:
+    """Returns the Unwritten for an error of writing; its message is empty for a BrokenPipeError.
+
+    The descriptor of standard output now leads to the null device, unless the system refuses that.
+    """
     try:
         # (so that Python's own flush at the end says nothing)
         os.dup2(os.open(os.devnull, os.O_WRONLY), sys.stdout.fileno())
@@ -49,18 +56,22 @@ def _unwritten(error: Exception) -> Unwritten:
     return Unwritten(error.strerror or str(error) if isinstance(error, OSError) else str(error))
 
 
-def told(name: str, error: Unwritten) -> int:
-    """Says on standard error why the tool `name` can't write, unless the message is empty; returns the exit status."""
+def report_unwritten(name: str, error: Unwritten) -> int:
+    """Says on standard error why the tool `name` can't write, unless the message is empty; returns WRITE_FAULT, 4."""
     if str(error):
         print(f"{name}: standard output can't be written: {error}", file=sys.stderr)
     return WRITE_FAULT
 
 
-def whole(name: str, text: str) -> int:
-    """Writes the whole output of the tool `name`, and returns the exit status."""
+def write_whole(name: str, text: str) -> int:
+    """Writes `text`, all that the tool `name` writes, to standard output, and returns the exit status.
+
+    The status is 0, or 4 if standard output can't be written; then a line on standard error says why, except for a pipe that
+    nobody reads.
+    """
     try:
         write(text)
         flush()
         return 0
     except Unwritten as error:
-        return told(name, error)
+        return report_unwritten(name, error)

@@ -1,4 +1,8 @@
-"""relint-page: writes a report of relint as one HTML file that needs no other file."""
+"""relint-page: writes a report of relint as one HTML file that needs no other file.
+
+Markup here is a `str` of HTML. A use of a pattern is a call in the code that matches with it. No use reaches a finding if all
+uses are known and, under each of them, the class of the pattern is known and isn't above the limit.
+"""
 from __future__ import annotations
 
 import argparse
@@ -37,12 +41,15 @@ LINK = re.compile(r"(?!(?:javascript|data|vbscript):)[a-z][a-z0-9+.-]*:[^\s\x00-
 
 
 def shown(text: str) -> str:
-    """Returns a text as markup. Characters that can't be seen, or that change the direction of writing, become escapes."""
+    """Returns a text as markup, with `&`, `<`, `>` and quotes as entities.
+
+    Characters that can't be seen, except `\\n` and tabs, become escapes such as `\\u202e`.
+    """
     return escape(escaped(text, but="\n\t"), quote=True)
 
 
 def _pinned(text: str) -> str:
-    """The hash by which the policy of the page allows a script or style."""
+    """The SHA-256 hash of a script or style, in the form in which a Content-Security-Policy allows it."""
     return "'sha256-" + base64.b64encode(hashlib.sha256(text.encode("utf-8")).digest()).decode("ascii") + "'"
 
 
@@ -53,16 +60,23 @@ def _json(value: object) -> str:
 
 
 class Link:
-    """Makes links that open a place in an editor, if the user gave a form for them."""
+    """Makes links that open a place in an editor, if the user gave the form of their addresses."""
 
     def __init__(self, form: Optional[str]) -> None:
-        """Takes a form such as vscode://file/{path}:{line}:{column}. Raises GatherError if it isn't an address."""
+        """Takes a form such as vscode://file/{path}:{line}:{column}, or None for no links.
+
+        Raises GatherError if the form has no scheme, nothing after the scheme, white space or control characters, or if its
+        scheme is javascript, data or vbscript.
+        """
         if form is not None and not LINK.fullmatch(form):
             raise gather.GatherError("--link wants an address with a scheme, such as 'vscode://file/{path}:{line}:{column}'")
         self.form = form
 
     def __call__(self, entry: Entry, words: str) -> str:
-        """Returns markup for the words, as a link if there is a form."""
+        """Returns markup for `words`: a link to the entry's place, or a plain `<span>` if there is no form or no place.
+
+        In the address, the absolute path is percent-encoded, and the line and the column count from 1.
+        """
         if self.form is None or entry.place is None:
             return f'<span class="mono">{shown(words)}</span>'
         path = quote(os.path.abspath(entry.path).encode("utf-8", "surrogateescape"))
@@ -74,12 +88,15 @@ class Link:
 
 
 def place_words(entry: Entry) -> str:
-    """Returns an entry's path with its line and column."""
+    """Returns an entry's place as path:line:column, or only its path if it has no place."""
     return f"{entry.path}:{entry.place.line}:{entry.place.column}" if entry.place else entry.path
 
 
 def _inside(text: str, start: int, spans: Sequence[Tuple[int, int]], tag: str) -> str:
-    """A piece of a source as markup, with the parts inside the spans in a tag. The piece begins at the offset `start`."""
+    """A piece of a source as markup, with the parts inside the spans in elements `tag`.
+
+    Spans are pairs of offsets in the source, without the end, and the piece begins at the offset `start`.
+    """
     parts, at = [], 0
     for first, last in sorted(spans):
         low, high = max(first - start, at), min(last - start, len(text))
@@ -90,7 +107,10 @@ def _inside(text: str, start: int, spans: Sequence[Tuple[int, int]], tag: str) -
 
 
 def _marked(source: Source, number: int, literals: Sequence[Tuple[int, int]], faults: Sequence[Tuple[int, int]]) -> str:
-    """A line of a source as markup, with its literals and the parts at fault in them marked."""
+    """The line `number` of a source, from 1, as markup with the literals and the parts at fault in them marked.
+
+    Both are spans of offsets in the source; the literals are sorted. `_cut` shortens what is between the literals.
+    """
     start = source.offset(Place(number, 1))
     text = source.line(number)
     parts, at = [], 0
@@ -103,13 +123,18 @@ def _marked(source: Source, number: int, literals: Sequence[Tuple[int, int]], fa
 
 
 def _cut(text: str) -> str:
-    """A piece of a line outside of literals as markup; its middle is left out if it is very long."""
+    """A piece of a line as markup; its middle is left out if it has more than MOST_CODES_OF_A_LINE characters."""
     if len(text) <= MOST_CODES_OF_A_LINE:
         return shown(text)
     return shown(text[:MOST_CODES_OF_A_LINE // 2]) + " .. " + shown(text[-MOST_CODES_OF_A_LINE // 2:])
 
 
 def _source(found: Finding) -> str:
+    """The source lines of a finding as markup, with the pattern and the parts at fault marked.
+
+    Of the pattern's lines, the first MOST_LINES are shown, and the others are counted. A sentence says so if the pattern is in
+    the cell of a notebook, or can't be found in the source.
+    """
     source, literals = found.source, found.code_spans()
     if found.entry.beyond is not None and found.entry.beyond.cell is not None:
         return '<p class="muted">The cell of the notebook isn\'t shown.</p>'
@@ -131,7 +156,10 @@ def _source(found: Finding) -> str:
 
 
 def _around(source: Source, first: int, last: int) -> Sequence[int]:
-    """The numbers of some lines with those around them, without blank ones at the ends."""
+    """The numbers of the lines from `first` to `last`, and of up to LINES_AROUND lines on each side.
+
+    Lines count from 1. Blank lines at the outer ends are left out.
+    """
     low, high = max(1, first - LINES_AROUND), min(last + LINES_AROUND, len(source.starts))
     while low < first and not source.line(low).strip():
         low += 1
@@ -141,7 +169,7 @@ def _around(source: Source, first: int, last: int) -> Sequence[int]:
 
 
 def _difference(old: Text, new: Text) -> Tuple[str, str]:
-    """Two patterns as markup, with what only one of them has in a tag of its own."""
+    """Two patterns as Python literals, in markup. `<del>` has what only the old one has, `<ins>` what only the new one has."""
     first, second = plain.quoted(old), plain.quoted(new)
     left, right = [], []
     for kind, a, b, c, d in difflib.SequenceMatcher(None, first, second, autojunk=False).get_opcodes():
@@ -152,7 +180,10 @@ def _difference(old: Text, new: Text) -> Tuple[str, str]:
 
 
 def _instead(found: Finding, offer: Offer) -> Iterator[str]:
-    """A pattern in place of a finding's, as a difference, with its class and what is known of it."""
+    """Yields the markup for an offer: how it differs from the finding's pattern, its class, and its words.
+
+    If the finding's pattern isn't known, no difference is shown.
+    """
     title = "Fix" if offer.kind == "fix" else "Advice: what your code sees may change"
     yield f"<h4>{shown(title)}</h4>"
     old, other = _difference(found.site.value if found.site else offer.pattern, offer.pattern)
@@ -163,6 +194,7 @@ def _instead(found: Finding, offer: Offer) -> Iterator[str]:
 
 
 def _suggestion(found: Finding) -> Iterator[str]:
+    """Yields the markup for the offers of a finding; if there are none, for a hint at the page about mending."""
     for it in found.offers:
         yield from _instead(found, it)
     if not found.offers:
@@ -170,6 +202,11 @@ def _suggestion(found: Finding) -> Iterator[str]:
 
 
 def _texts(found: Finding, number: int) -> Iterator[str]:
+    """Yields the markup for the family of texts that show a finding, and for a snippet that measures them.
+
+    Yields nothing if there is no family, and no snippet if none can be made. `number` is the number of the finding's card,
+    from 1.
+    """
     if found.judged.family is None:
         return
     yield f"<h4>Texts that show it, for k = 1, 2, 3 ..</h4><code>{shown(plain.family_words(found.judged.family))}</code>"
@@ -182,30 +219,37 @@ def _texts(found: Finding, number: int) -> Iterator[str]:
 
 
 def _sentence(words: str) -> str:
+    """The words with their first letter as a capital, and with a full stop at the end."""
     return words[:1].upper() + words[1:] + "."
 
 
 def _beyond_badge(entry: Entry) -> str:
-    """The badge that says how relint-wide found an entry; "" for an entry of relint."""
+    """The badge that says how relint-wide found an entry, with the code of its rule, as markup; "" for an entry of relint."""
     if entry.beyond is None:
         return ""
     return f'<span class="origin">{shown(KIND_WORDS[entry.beyond.kind])}, {rules.code(entry)}</span>'
 
 
 def _beyond_words(found: Finding) -> Iterator[str]:
-    """Yields the markup for the pattern of an entry of relint-wide, and where it comes from; nothing for other entries."""
+    """Yields the markup for an entry of relint-wide: its pattern and flags, and the names that hold parts of it and its notes.
+
+    Yields nothing for other entries.
+    """
     beyond = found.entry.beyond
     if beyond is None:
         return
     yield f"<p><code>{shown(plain.quoted(beyond.pattern) + plain.flags_code(beyond.flags))}</code></p>"
-    words = [it for it in (beyond.held_words(found.entry.path), *beyond.notes) if it]
+    words = [it for it in (beyond.holder_words(found.entry.path), *beyond.notes) if it]
     if words:
         names = NAMES.sub(r"<code>\1</code>", shown(_sentence("; ".join(words))))
         yield f'<p class="muted kept">{names}</p>'
 
 
 def card(found: Finding, number: int, link: Link, compile_as: str) -> str:
-    """Returns the card of a finding; `compile_as` is the mode in which the report judges `compile`."""
+    """Returns the card of a finding as markup. `number` is used in its ids, and is different for each card on the page.
+
+    `link` makes the link to its place, and `compile_as` is the mode in which the report judges `compile`.
+    """
     entry, verdict = found.entry, found.judged.verdict()
     kind = "exponential" if found.judged.kind == "exponential" else "degree"
     is_beyond = f" {entry.beyond.kind}" if entry.beyond else ""
@@ -231,11 +275,19 @@ def card(found: Finding, number: int, link: Link, compile_as: str) -> str:
 
 
 def _count(number: int, name: str, target: str, kind: str) -> str:
+    """An item of the list of counts, as markup: `number` with the words `name`, which is a link to the section `target`.
+
+    `kind` is the item's class in the style sheet, or "".
+    """
     return f'<li class="{kind}"><a href="#{target}"><b>{number:,}</b> {name}</a></li>'
 
 
 def _counts(entries: Sequence[Entry], found: Sequence[Finding], unused: int) -> str:
-    """The counts at the top of the page. A finding counts by its class under the uses of its pattern."""
+    """The counts at the top of the page, as markup. A finding counts by its class under the uses of its pattern.
+
+    `found` are the findings that a use reaches, except those only warned of, which count as "without a finding". `unused` is
+    how many no use reaches. Findings of relint-wide are counted by kind, and its other entries aren't counted.
+    """
     entries, own = own_of(entries), own_of([it.judged for it in found if it.entry.beyond is None])
     kinds = Counter(it.entry.beyond.kind for it in found if it.entry.beyond is not None)
     exponential = sum(it.kind == "exponential" for it in own)
@@ -254,7 +306,7 @@ def _counts(entries: Sequence[Entry], found: Sequence[Finding], unused: int) -> 
 
 
 def _list(items: Sequence[str]) -> str:
-    """A list of the first MOST_PLACES items, which are markup."""
+    """A list of the first MOST_PLACES items, which are markup, and of the number of the others if there are any."""
     found = [f"<li>{it}</li>" for it in items[:MOST_PLACES]]
     if len(items) > MOST_PLACES:
         found.append(f"<li>and {len(items) - MOST_PLACES:,} more, in the table below</li>")
@@ -262,11 +314,12 @@ def _list(items: Sequence[str]) -> str:
 
 
 def _places(entries: Sequence[Entry], link: Link) -> str:
+    """A list of the first MOST_PLACES places of entries, as markup, and of the number of the others if there are any."""
     return _list([link(it, place_words(it)) for it in entries])
 
 
 def _unused(found: Sequence[Finding], link: Link, compile_as: str) -> str:
-    """The section of the findings that no use reaches; "" if there are none."""
+    """The section of the findings that no use reaches, as markup; "" if there are none. `compile_as` is as for `card`."""
     if not found:
         return ""
     items = [f"{link(it.entry, place_words(it.entry))} <code>{shown(it.entry.call or '')}</code>: "
@@ -276,19 +329,22 @@ def _unused(found: Sequence[Finding], link: Link, compile_as: str) -> str:
 
 
 def _group(name: str, words: str, page: str, entries: Sequence[Entry], link: Link) -> str:
-    """A group of entries with the same cause or limit, below a heading that says what it means."""
+    """The places of the entries with the cause or limit `name`, as markup, below a heading with `words` that explain it.
+
+    `page` is a command that shows more about it, or "".
+    """
     helps = f' <span class="muted">See {escape(page)}.</span>' if page else ""
     return (f'<details class="cause"><summary><b>{len(entries):,}</b> {shown(name)}: {shown(words)}.{helps}</summary>'
             f"{_places(entries, link)}</details>")
 
 
 def _folded(name: str, title: str, body: str) -> str:
-    """A section that is folded until the reader opens it."""
+    """A section that is closed until the reader opens it, as markup. `name` is its id; `title` and `body` are markup."""
     return f'<details class="folded" id="{name}"><summary><h2>{title}</h2></summary><div>{body}</div></details>\n'
 
 
 def _refused(entries: Sequence[Entry], link: Link) -> str:
-    """The section of the entries that weren't analysed, by cause."""
+    """The section of the entries that weren't analysed, as markup, by cause; it says so if there are none."""
     by_cause: Dict[str, List[Entry]] = {}
     for entry in entries:
         cause = plain.not_analysed(entry)
@@ -303,7 +359,10 @@ def _refused(entries: Sequence[Entry], link: Link) -> str:
 
 
 def _undecided(entries: Sequence[Entry], link: Link) -> str:
-    """The section of the undecided entries, by limit."""
+    """The section of the undecided entries, as markup, by the limit that was exceeded; it says so if there are none.
+
+    The limits come in the order of their first entries.
+    """
     by_limit: Dict[str, List[Entry]] = {}
     for entry in entries:
         if entry.kind == "undecided":
@@ -315,19 +374,23 @@ def _undecided(entries: Sequence[Entry], link: Link) -> str:
 
 
 class _Names:
-    """Numbers names in the order in which they first come, so that the page has each of them only once."""
+    """Numbers names from 0, in the order in which they first come, so that the page has each of them only once."""
 
     def __init__(self) -> None:
+        """Begins without names."""
         self.numbers: Dict[str, int] = {}
 
     def __call__(self, name: str) -> int:
+        """Returns the number of a name, which is the next free one if the name is new."""
         return self.numbers.setdefault(name, len(self.numbers))
 
 
 def table_data(entries: Sequence[Entry], unused: Sequence[Entry] = ()) -> Dict[str, object]:
     """Returns the data from which the page draws its table: each name once, and a row of numbers for each entry.
 
-    `unused` are those of the entries that no use reaches.
+    A row has the number of the path, the line and the column (both 0 if there is no place), and the numbers of the call and
+    the class. The numbers of names are indexes, from 0, of the lists under `paths`, `calls` and `kinds`. `unused` are those of
+    the entries that no use reaches.
     """
     paths, calls, kinds = _Names(), _Names(), _Names()
     apart = {id(it) for it in unused}
@@ -347,7 +410,10 @@ def table_data(entries: Sequence[Entry], unused: Sequence[Entry] = ()) -> Dict[s
 
 
 def _kind(entry: Entry) -> str:
-    """The text for an entry in the column Class of the table: its class, or why it wasn't analysed."""
+    """The text for an entry in the column Class of the table: how relint-wide found it, if it did, and its class.
+
+    For an entry without a class, it is why it wasn't analysed.
+    """
     verdict = entry.verdict()
     if verdict:
         return (f"{KIND_WORDS[entry.beyond.kind]}: " if entry.beyond else "") + plain.class_word(verdict)
@@ -370,7 +436,11 @@ TABLE = """
 
 
 def _cards(found: Sequence[Finding], all_found: int, link: Link, compile_as: str) -> str:
-    """The cards of these findings: first those of relint, then those of relint-wide by kind."""
+    """The cards of the findings in `found`, as markup: first those of relint, then those of relint-wide by kind.
+
+    `all_found` is the number of all findings, including those without a card. A sentence says so if it is 0, or if some
+    findings have no card. `link` and `compile_as` are as for `card`.
+    """
     if not all_found:
         return "<p>No finding: no pattern that was analysed is above the limit.</p>"
     kinds = [it.entry.beyond.kind if it.entry.beyond else "" for it in found]
@@ -386,7 +456,10 @@ def _cards(found: Sequence[Finding], all_found: int, link: Link, compile_as: str
 
 
 def _head(title: str, findings_counted: str) -> str:
-    """The page up to the end of its head. Its policy allows only the page's own style and script."""
+    """The page up to the end of its head, as markup. Its policy allows only the page's own style and script.
+
+    The window's title is made of `title`, a text, and `findings_counted`, such as "2 findings".
+    """
     allowed = f"style-src {_pinned(STYLE)}; script-src {_pinned(SCRIPT)}"
     policy = f"default-src 'none'; {allowed}; base-uri 'none'; form-action 'none'"
     return (
@@ -399,13 +472,17 @@ def _head(title: str, findings_counted: str) -> str:
 
 
 def _unlooked(given: gather.Gathered) -> str:
-    """A sentence that says what wasn't looked at; "" if there is nothing to say."""
+    """A blank and a sentence that counts what wasn't looked at or was left out; "" if there is nothing to say."""
     words = given.selection.unlooked() if given.selection else ""
     return f" {words[0].upper()}{words[1:]}." if words else ""
 
 
 def page(given: gather.Gathered, looked: Looked, most: int, link: Link, title: str) -> str:
-    """Returns the HTML page for a report. Only its `most` worst findings get a card."""
+    """Returns the HTML page for the report in `given`. Only the `most` worst of the findings in `looked` get a card.
+
+    All of relint's own count as worse than those of relint-wide. Findings that are only warned of get no card, and neither do
+    those that no use reaches. `link` makes the links to places, and `title` is the heading.
+    """
     entries = looked.as_used(given.report.entries)
     warned = {id(it) for it in given.warned}
     found = sorted((it for it in looked.reached if id(it.entry) not in warned),
@@ -450,11 +527,16 @@ def parser() -> Parser:
 
 
 def _work(words: argparse.Namespace) -> int:
+    """Writes the page to the file or to standard output; or, with --show-config, only writes the configuration.
+
+    Returns the exit status: for a page 0, TREE_FAULT if something couldn't be read or wasn't judged in time, or WRITE_FAULT if
+    the file can't be written. `gather.ended` reports the errors that it raises.
+    """
     if words.show_config:
         return gather.show_config(words)
     link = Link(words.link)
     given = gather.gathered(words)
-    gather.tell("relint-page", given)
+    gather.write_notes("relint-page", given)
     looked = looked_at(given, Sources(given.folders), words.mend, words.cards)
     status = program.TREE_FAULT if given.status == program.TREE_FAULT else 0
     data = page(given, looked, words.cards, link, words.title).encode("utf-8", "backslashreplace")
@@ -465,7 +547,11 @@ def _work(words: argparse.Namespace) -> int:
 
 
 def main(words: Optional[Sequence[str]] = None) -> int:
-    """Runs the tool with the words of the command line, and returns the exit status."""
+    """Writes the page that the words of the command line ask for, and returns the exit status; None means those in `sys.argv`.
+
+    The status is 0 if the page was written, even with findings, and 3 if something couldn't be read or wasn't judged in time.
+    Errors give another status and a message; --help, --version and wrong options raise SystemExit.
+    """
     given = gather.parsed(parser(), words)
     return gather.ended("relint-page", lambda: _work(given))
 

@@ -1,4 +1,7 @@
-"""The chart of a finding: steps against the length of the text, both logarithmic, the same axes on every card."""
+"""The chart of a finding: steps against the length of the text, both logarithmic, the same axes on every card.
+
+Coordinates are those of the SVG image, where y grows downwards. A log is a logarithm to the base 10. Charts are markup of SVG.
+"""
 from __future__ import annotations
 
 import math
@@ -19,18 +22,22 @@ LINE = 12
 
 
 def _x(length_log: float) -> float:
+    """The x coordinate of a length with this log; at most that of LONGEST_LOG, at the right end of the axis."""
     return LEFT + (WIDTH - LEFT - RIGHT) * min(length_log, LONGEST_LOG) / LONGEST_LOG
 
 
 def _y(steps_log: float) -> float:
+    """The y coordinate of a number of steps with this log; at least that of MOST_LOG, at the top of the axis."""
     return HEIGHT - BOTTOM - (HEIGHT - TOP - BOTTOM) * min(steps_log, MOST_LOG) / MOST_LOG
 
 
 def _at(point: Point) -> Tuple[float, float]:
+    """The coordinates of a point; lengths and steps below 1 count as 1."""
     return _x(math.log10(max(1, point.length))), _y(math.log10(max(1, point.steps)))
 
 
 def _grid() -> List[str]:
+    """The axes with their names, and the lines across the chart, as pieces of markup."""
     lines = []
     for log, name in STEPS:
         y = _y(log)
@@ -46,7 +53,11 @@ def _grid() -> List[str]:
 
 
 def _slopes(first: Point, degree: Optional[int]) -> List[str]:
-    """Lines of the degrees 1 to 3, and of the pattern's own, through the curve's first point."""
+    """Lines of the degrees 1 to 3, and of the pattern's own, from the curve's first point on, as pieces of markup.
+
+    A line has its name only if it ends at the right and there is room for the name. `degree` is the pattern's own; None, 0 and
+    1 to 3 add no line.
+    """
     x0, y0 = min(LONGEST_LOG, math.log10(max(1, first.length))), min(MOST_LOG, math.log10(max(1, first.steps)))
     lines, last = [], float(HEIGHT)
     for slope in sorted({*SLOPES, degree or 1}):
@@ -60,6 +71,11 @@ def _slopes(first: Point, degree: Optional[int]) -> List[str]:
 
 
 def _curve(growth: Growth, exponential: bool, degree: Optional[int]) -> List[str]:
+    """The curve of the measured points with a mark at each, and the name of the class, as pieces of markup.
+
+    A mark is a circle if the class is exponential, otherwise a square. Points of more steps than the axis has are left out; if
+    all are, only the first is drawn, at the top.
+    """
     shown = [it for it in growth.points if it.steps <= 10 ** MOST_LOG] or list(growth.points[:1])
     places = [_at(it) for it in shown]
     path = "M" + "L".join(f"{x:.1f} {y:.1f}" for x, y in places)
@@ -75,13 +91,17 @@ def _curve(growth: Growth, exponential: bool, degree: Optional[int]) -> List[str
 
 
 def chart(growth: Growth, verdict: Verdict, number: int) -> str:
-    """Returns the chart as markup of SVG for a page of HTML; `number` makes its names the only ones on the page."""
+    """Returns the chart as markup of SVG for a page of HTML, with a title and a description for screen readers.
+
+    `growth` must have a point, and `verdict` must be a degree or exponential. `number` is a part of the ids in the chart, and
+    is different for each chart on the page.
+    """
     exponential = verdict.kind == "exponential"
-    told = growth.told
+    example = growth.shown
     shape = "bends upward, away from every straight line" if exponential else f"is close to a line of degree {verdict.degree}"
     words = (
         f"Steps against the length of the text, both logarithmic. The curve of this pattern {shape}. "
-        f"At length {told.length:,} it stands at {plain.big(told.steps)} steps."
+        f"At length {example.length:,} it stands at {plain.big(example.steps)} steps."
     )
     parts = [
         f'<svg viewBox="0 0 {WIDTH} {HEIGHT}" role="img" aria-labelledby="c{number}-t c{number}-d">',

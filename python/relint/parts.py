@@ -1,4 +1,7 @@
-"""Runs relint on parts of the paths, several runs at the same time, with a progress line on a terminal."""
+"""Runs relint on parts of the paths, several runs at the same time, with a progress line on a terminal.
+
+A run is one process of relint over one part. A piece is the report of a run, taken apart so that it can be joined.
+"""
 from __future__ import annotations
 
 import errno
@@ -32,24 +35,29 @@ NO_ROOM = (errno.EMFILE, errno.ENFILE, errno.EAGAIN, errno.ENOMEM)
 
 
 class NotJoined(Exception):
-    """Raised if the reports on the parts can't be joined to the bytes that a single run writes."""
+    """Raised if the reports on the parts can't be joined to what a single run writes, or if a part's names are too long."""
 
 
 class Result:
-    """The result of a run over a part; `piece` is None if the run wrote no report."""
+    """The result of a run over a part: its exit status, its report, and the bytes that it wrote to standard error."""
 
     __slots__ = ("status", "piece", "err")
 
     def __init__(self, status: int, piece: Optional[Piece], err: bytes) -> None:
+        """Takes the fields; `piece` is None if the run wrote no report."""
         self.status, self.piece, self.err = status, piece, err
 
 
 class Run:
-    """A run over a part: the number of the part, what the run wrote so far, and how many of its outputs are open."""
+    """A run over a part. `out` and `err` have what it wrote so far, in pieces; `open` is how many outputs aren't at their end.
+
+    `place` is the number of the part, from 0, and `files` is how many paths it has. `pid` is 0 until the run has begun.
+    """
 
     __slots__ = ("place", "files", "pid", "out", "err", "open")
 
     def __init__(self, place: int, files: int) -> None:
+        """Takes the number of the part and how many paths it has."""
         self.place, self.files, self.pid, self.open = place, files, 0, 2
         self.out: List[bytes] = []
         self.err: List[bytes] = []
@@ -59,12 +67,17 @@ class Progress:
     """Shows a line on standard error that says how far the work is, if standard error is a terminal."""
 
     def __init__(self) -> None:
+        """Begins to measure the time; nothing is shown yet."""
         self.is_shown = sys.stderr is not None and sys.stderr.isatty()
         self._began = time.monotonic()
         self._next = self._began
 
     def show(self, done: int, total: Optional[int], findings: int) -> None:
-        """Shows the counts, unless they were shown a moment ago. `total` is None while files are still being listed."""
+        """Shows how many of the `total` files are done, and the findings, unless a line was shown less than SHOWN_EVERY s ago.
+
+        `total` is None while files are still being listed. Once it is known and a file is done, the time that is left is shown
+        too.
+        """
         if not self.is_shown:
             return
         now = time.monotonic()
@@ -79,11 +92,12 @@ class Progress:
         self._write(f"relint-many: {done:,} of {total:,} files, {found}{left}")
 
     def clear(self) -> None:
-        """Removes the line."""
+        """Makes the line empty; does nothing if no line is shown, as without a terminal."""
         if self.is_shown:
             self._write("")
 
     def _write(self, line: str) -> None:
+        """Replaces the line by as much of `line` as the terminal has room for; if that fails, nothing more is ever shown."""
         try:
             width = os.get_terminal_size(sys.stderr.fileno()).columns or 80
             sys.stderr.write("\r" + line[: width - 1] + "\x1b[K")
@@ -93,10 +107,17 @@ class Progress:
 
 
 class Runs:
-    """Runs the program on parts of the paths that it is given, with at most `jobs` runs at a time."""
+    """Runs the program on parts of the paths that it is given, with at most `jobs` runs at a time.
+
+    `results` has the results by the numbers of the parts. `done` and `findings` count the files of these parts and their
+    findings. `is_over` says that a run ended without a report.
+    """
 
     def __init__(self, start: Sequence[str], jobs: int, more: int) -> None:
-        """Takes the program with the words that come before the paths. Parts are `more` times as large as usual."""
+        """Takes the words that start the program, without the `--` before the paths, and the largest number of runs at a time.
+
+        Parts are `more` times as large as usual.
+        """
         self.results: Dict[int, Result] = {}
         self.done = self.findings = 0
         self.is_over = False
@@ -116,9 +137,10 @@ class Runs:
     def go_on(self, is_listed: bool, wait: Optional[float]) -> bool:
         """Reads what the runs wrote, and starts new runs; returns whether any is still running.
 
-        It waits for output for at most `wait` seconds, or as long as it takes if `wait` is None. `is_listed` says that no more
-        paths will be added. If a run wrote no report, everything is over, since the other runs don't matter then. Raises
-        ProgramError if a run can't be started or was ended by a signal, and NotJoined if a report can't be joined.
+        If runs are running, it waits for output for at most `wait` seconds, or as long as it takes if `wait` is None.
+        `is_listed` says that no more paths will be added. Once a run has ended without a report, no run is started, and the
+        result is False. Raises ProgramError if a run can't be started or was ended by a signal, and NotJoined if a report
+        can't be taken apart or the names in a part are too long.
         """
         if self._outputs:
             for output, _ in self._poll.poll(None if wait is None else wait * 1000):
@@ -130,14 +152,17 @@ class Runs:
         return bool(self._running) and not self.is_over
 
     def stop(self) -> None:
-        """Ends all runs that are still running."""
+        """Kills all runs that are still running, waits for their ends, and closes their outputs."""
         end([it.pid for it in self._running])
         for output in self._outputs:
             os.close(output)
         self._running, self._outputs = [], {}
 
     def _next_part(self, is_listed: bool) -> List[bytes]:
-        """Returns the next part, or an empty list if there are no paths left or not enough of them yet."""
+        """The next part of the paths, which isn't removed; an empty list if there are no paths left or not enough of them yet.
+
+        `is_listed` says that no more paths will be added; then all that are left are enough.
+        """
         left = len(self._paths) - self._given
         if is_listed:
             size = max(-(-left // (self._jobs * SHARES)), LEAST_OF_A_PART * self._more)
@@ -152,9 +177,11 @@ class Runs:
         return part
 
     def _begin(self, part: List[bytes]) -> bool:
-        """Starts a run over the part; returns False if the system has no room for one more run.
+        """Starts a run over the part, and returns True.
 
-        Raises ProgramError if the program can't be run, and NotJoined if the names are too long for one run.
+        If the system has no room for one more run while others are running, starts none, lowers the number of runs at a time
+        to those, and returns False. Raises ProgramError if the program can't be run, and NotJoined if the names are too long
+        for one run.
         """
         run = Run(self._parts, len(part))
         try:
@@ -176,7 +203,10 @@ class Runs:
         return True
 
     def _read(self, output: int) -> None:
-        """Reads from an output that has something to read or is at its end."""
+        """Reads from the descriptor `output`, which has something to read or is at its end.
+
+        At the end of both outputs of a run, its result is taken. Raises ProgramError and NotJoined as `_take` does.
+        """
         run, kept = self._outputs[output]
         data = os.read(output, READ_AT_A_TIME)
         if data:
@@ -190,7 +220,10 @@ class Runs:
             self._take(run)
 
     def _take(self, run: Run) -> None:
-        """Takes the result of a run that has closed both outputs."""
+        """Waits for a run that has closed both outputs, and notes its result; without a report, everything is over.
+
+        Raises ProgramError if a signal ended it, and NotJoined if its report can't be taken apart.
+        """
         _, status = os.waitpid(run.pid, 0)
         self._running.remove(run)
         if os.WIFSIGNALED(status):
@@ -209,9 +242,11 @@ class Runs:
 
 
 def run_parts(start: Sequence[str], listed: Iterable[List[bytes]], jobs: int, more: int) -> Answer:
-    """Runs the program over all paths in parts, and returns the answer of a single run; without output if there are no paths.
+    """Runs the program over all paths in parts, and returns the answer that a single run would give.
 
-    Runs begin while paths are still being listed. Raises NotJoined if the answer can't be put together from the parts,
+    It has no output if there are no paths, or if a run writes no report. `start` are the words before the `--` and the paths,
+    `listed` gives the paths in lists, `jobs` is the largest number of runs at a time, and parts are `more` times as large as
+    usual. Runs begin while paths are still being listed. Raises NotJoined if the answer can't be put together from the parts,
     ProgramError if the program can't be run, and whatever the iterator of the paths raises.
     """
     progress = Progress()
@@ -236,7 +271,11 @@ def run_parts(start: Sequence[str], listed: Iterable[List[bytes]], jobs: int, mo
 
 
 def _joined(results: Sequence[Result]) -> Answer:
-    """The answer of a single run, from the results of the parts in order. Raises NotJoined."""
+    """The answer of a single run, from the results of the parts in order. Raises NotJoined if they can't be joined.
+
+    Its exit status is joined from theirs; if runs wrote no report, only from those, and then the answer has no report either.
+    The answer's standard error is the first one of the results that isn't empty.
+    """
     err = next((it.err for it in results if it.err), b"")
     silent = [it.status for it in results if it.piece is None]
     if silent or not results:

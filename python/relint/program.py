@@ -1,8 +1,7 @@
 """Finds the programs relint and relint-spans, makes sure that they are these, and runs relint.
 
 Each is the one that the user names in its variable, else the one beside this package: the script of the clone, or the program
-that was installed with the package. Else it is the one on the PATH. It is never taken from the current folder, which may hold
-what others wrote, nor from the folder of the script that happens to run.
+that was installed with the package. Else it is the one on the PATH, of which only absolute entries count.
 """
 from __future__ import annotations
 
@@ -20,7 +19,7 @@ _answers: Dict[Tuple[str, str], Answer] = {}
 
 
 class ProgramError(Exception):
-    """Raised if the program can't be found or run; the message says what to do."""
+    """Raised if a program can't be found or run, or isn't the right one; the message says why."""
 
 
 class TookLong(Exception):
@@ -28,24 +27,30 @@ class TookLong(Exception):
 
 
 class Answer:
-    """The result of a run of the program: its status, and the bytes of both outputs."""
+    """The result of a run of a program: its exit status, and the bytes of its output, `out`, and of its errors, `err`.
+
+    The status is -N, or 128 + N from `first_answer`, if signal N ended the run.
+    """
 
     __slots__ = ("status", "out", "err")
 
     def __init__(self, status: int, out: bytes, err: bytes) -> None:
+        """Takes the fields."""
         self.status, self.out, self.err = status, out, err
 
 
 class Known:
-    """A program of this project, and a question by whose answer it is recognised.
+    """A program of this project: how it is found, and a question by whose answer it is recognised.
 
-    `variable` is the environment variable by which the user can name another one. `script` runs the program of a clone, and
-    `built` is a path that is in the clone once the program was built. `build` says how to build it.
+    `variable` is the environment variable in which the user can name another one. `script` is the path in a clone of the
+    script that runs the program, and `built` are paths of which one is in the clone once the program was built. `build` says
+    how to build it. `question` are arguments for which the program writes exactly `answer`.
     """
 
     __slots__ = ("name", "variable", "script", "built", "build", "question", "answer")
 
     def __init__(self, name: str, script: str, build: str, question: Tuple[str, ...], answer: bytes) -> None:
+        """Takes the fields, except `variable` and `built`, which follow from the name."""
         self.name, self.script, self.build, self.question, self.answer = name, script, build, question, answer
         crate = name.replace("-", "_")
         self.variable = crate.upper()
@@ -57,7 +62,10 @@ SPANS = Known("relint-spans", "tools/relint-spans", "build it with tools/release
 
 
 def program(asked: Known = RELINT) -> str:
-    """Returns the path of the program, after checking once that it answers as it should. Raises ProgramError."""
+    """Returns the path of the program, once it has answered its question; each path is asked only once.
+
+    Raises ProgramError if the program can't be found or run, or doesn't answer as it should.
+    """
     found = located(asked)
     answer = first_answer(found, asked)
     if answer.out == asked.answer and answer.status == 0:
@@ -68,7 +76,10 @@ def program(asked: Known = RELINT) -> str:
 
 
 def first_answer(found: str, asked: Known = RELINT) -> Answer:
-    """Returns what a program answers to the question by which it is recognised; asks only once. Raises ProgramError."""
+    """Returns what the program at the path `found` answers to the question of `asked`; it is asked only once.
+
+    Raises ProgramError if it can't be run.
+    """
     from .spawning import asked as answer_of
 
     key = asked.name, found
@@ -81,9 +92,10 @@ def first_answer(found: str, asked: Known = RELINT) -> Answer:
 
 
 def located(asked: Known = RELINT) -> str:
-    """Returns the path of the program without running it. Raises ProgramError if there is none.
+    """Returns the path of the program without running it: from the variable, the clone, the installation or the PATH.
 
-    The script of a clone is taken only if the clone has a program already, so that no tool starts an hour of proofs.
+    The first of these that has it counts. The script of a clone is taken only if the program is built. Raises ProgramError if
+    there is none, if the variable names one that can't be run, or if the installed one hasn't the size that it had.
     """
     named = os.environ.get(asked.variable)
     if named:
@@ -105,9 +117,9 @@ def located(asked: Known = RELINT) -> str:
 
 
 def on_path(name: str) -> Optional[str]:
-    """Returns the path of a command on the PATH, or None if there is none.
+    """Returns the path of the first file `name` in a folder of the PATH that can be run, or None if there is none.
 
-    Empty and relative entries of the PATH are skipped, since they name the current folder or one below it.
+    Entries of the PATH that aren't absolute are skipped. None too if `name` has a slash. If PATH is unset, os.defpath counts.
     """
     for entry in os.environ.get("PATH", os.defpath).split(os.pathsep):
         found = os.path.join(entry, name)
@@ -117,15 +129,17 @@ def on_path(name: str) -> Optional[str]:
 
 
 def _can_run(path: str) -> bool:
+    """Whether a path is a file that this process may execute."""
     return os.path.isfile(path) and os.access(path, os.X_OK)
 
 
 def _package() -> str:
+    """The folder of this package, without links."""
     return os.path.dirname(os.path.realpath(__file__))
 
 
 def _installed(name: str) -> Optional[str]:
-    """The program that was installed with this package, as the installer noted it, or None if there is none.
+    """The path of the program that was installed with this package, as the installer noted it, or None if there is none.
 
     Raises ProgramError if the program no longer has the size that it had when it was installed.
     """
@@ -140,7 +154,10 @@ def _installed(name: str) -> Optional[str]:
 
 
 def _recorded(packages: str) -> List[Tuple[str, int]]:
-    """The paths and sizes of the programs that the installer of this package noted in its file RECORD."""
+    """The paths and sizes of the programs that the installer of this package noted in its file RECORD; none without one.
+
+    `packages` is the folder in which the package was installed. The paths are relative to it, and the sizes are in bytes.
+    """
     try:
         notes = [it for it in os.listdir(packages) if it.startswith("relint-") and it.endswith(".dist-info")]
         with open(os.path.join(packages, notes[0], "RECORD"), encoding="utf-8") as file:
@@ -152,9 +169,9 @@ def _recorded(packages: str) -> List[Tuple[str, int]]:
 
 
 def run(words: Sequence[str], cwd: Optional[str] = None, seconds: Optional[float] = None) -> Answer:
-    """Runs relint with these arguments, and returns its answer.
+    """Runs relint with these arguments and an empty input, in the folder `cwd` or else the current one; returns its answer.
 
-    Raises ProgramError if it can't be started, and TookLong if it takes longer than `seconds`.
+    Raises ProgramError if it can't be found or started, and TookLong if it takes longer than `seconds` by the clock.
     """
     import subprocess
 

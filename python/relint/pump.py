@@ -1,4 +1,8 @@
-"""Finds the parts of a pattern that match the repeated texts of a family, by asking relint."""
+"""Finds the parts of a pattern that match the repeated texts of a family, by asking relint.
+
+A family has a text for each number k: heads that stay, and between them pumps, the repeated texts. Positions and spans count
+the code points, or the bytes, of the pattern from 0; the end of a span isn't in it.
+"""
 from __future__ import annotations
 
 import re
@@ -23,9 +27,10 @@ MOST_PARTS = 40
 
 @dataclass(frozen=True)
 class Part:
-    """A part of a pattern that repeats without a bound: where it and its quantifier begin, and where both end.
+    """A part of a pattern that repeats without a bound, from `start` to `end`, where its quantifier ends too.
 
-    `around` are the openings of the groups with flags that it is in.
+    `quantifier` is where the quantifier begins. `around` are the openings of the groups with flags that the part is in, such
+    as "(?i:", the outermost first.
     """
 
     start: int
@@ -35,9 +40,14 @@ class Part:
 
 
 class _Scan:
-    """Scans a pattern that relint has judged, and collects its parts that repeat without a bound."""
+    """Scans a pattern that relint has judged, and collects its parts that repeat without a bound.
+
+    In the methods, `at` is the position that is read next, `verbose` says that VERBOSE holds there, and `around` is as in
+    `Part`. They may raise IndexError or RecursionError for a pattern that relint hasn't judged.
+    """
 
     def __init__(self, pattern: str, verbose: bool) -> None:
+        """Scans the pattern; `verbose` says that its call has the flag VERBOSE. `front` gets the letters of flags in front."""
         self.pattern, self.at = pattern, 0
         self.parts: List[Part] = []
         self.front = ""
@@ -59,6 +69,7 @@ class _Scan:
             self.at = found.end()
 
     def _body(self, verbose: bool, around: Tuple[str, ...]) -> None:
+        """Reads branches up to a closing bracket or the end, and notes the parts in them."""
         while True:
             self._pass(verbose)
             if self.at >= len(self.pattern) or self.pattern[self.at] == ")":
@@ -76,6 +87,7 @@ class _Scan:
                 self.parts.append(Part(start, self.at, quantifier.start(), around))
 
     def _atom(self, verbose: bool, around: Tuple[str, ...]) -> None:
+        """Reads a character (`|` too), an escape, a class or a group."""
         first = self.pattern[self.at]
         found = ESCAPE.match(self.pattern, self.at) if first == "\\" else CLASS.match(self.pattern, self.at)
         if first in "\\[" and found:
@@ -86,6 +98,7 @@ class _Scan:
             self.at += 1
 
     def _group(self, verbose: bool, around: Tuple[str, ...]) -> None:
+        """Reads a group with its brackets, and notes the parts in it."""
         opened = OPENED.match(self.pattern, self.at)
         head = opened.group() if opened else "("
         self.at += len(head)
@@ -100,14 +113,15 @@ class _Scan:
 def repeated_parts(pattern: str, verbose: bool) -> Tuple[str, Sequence[Part]]:
     """Returns the letters of the flags in front of a pattern, and its parts that repeat without a bound, shortest first.
 
-    The pattern must be one that relint has judged; for others it may raise IndexError or RecursionError.
+    `(?i)a*` gives "i" and one part. `verbose` says that the call of the pattern has the flag VERBOSE. The pattern must be one
+    that relint has judged; for others it may raise IndexError or RecursionError.
     """
     scan = _Scan(pattern, verbose)
     return scan.front, sorted(scan.parts, key=lambda it: (it.end - it.start, it.start))
 
 
 def _rotated(pump: Text) -> List[Text]:
-    """The text with each of its characters in turn as the first, or only the text itself if it is long."""
+    """The text rotated to begin with each of its characters in turn; only the text itself if it exceeds LONGEST_ROTATED."""
     if len(pump) > LONGEST_ROTATED:
         return [pump]
     twice = pump * 2
@@ -115,22 +129,26 @@ def _rotated(pump: Text) -> List[Text]:
 
 
 class _Asked:
-    """Asks relint questions about parts of one pattern."""
+    """Asks relint questions about the parts of one pattern that repeat without a bound, at most MOST_PARTS of them."""
 
     def __init__(self, meter: Meter, pattern: Text, flags: int) -> None:
+        """Takes what runs relint, and the pattern with its flags. May raise IndexError or RecursionError."""
         self.meter, self.flags, self.is_bytes = meter, flags, isinstance(pattern, bytes)
         self.text = pattern.decode("latin-1") if isinstance(pattern, bytes) else pattern
         self.front, parts = repeated_parts(self.text, bool(flags & int(re.X)))
         self.parts = parts[:MOST_PARTS]
 
     def word(self, part: Part) -> Optional[str]:
-        """The part as a pattern by itself, for relint's command line; None if there is none."""
+        """The part as a pattern by itself, as a word for relint's command line; None if it can't be such a word."""
         front = f"(?{self.front})" if self.front else ""
         text = front + "".join(part.around) + self.text[part.start:part.end] + ")" * len(part.around)
         return as_word(text.encode("latin-1") if self.is_bytes else text, self.flags)
 
     def bounded(self, part: Part) -> Optional[str]:
-        """The whole pattern with a bound on the repetitions of this part; None if it can't be given to relint."""
+        """The whole pattern in which this part is repeated only as often as it must be, as a word for relint's command line.
+
+        If that is 0 times, it is repeated at most once. None if it can't be such a word.
+        """
         quantifier = self.text[part.quantifier:part.end]
         least = quantifier[1:quantifier.index(",")] if quantifier[0] == "{" else "1" if quantifier[0] == "+" else "0"
         bound = "?" if least in ("", "0") else f"{{{least}}}"
@@ -138,7 +156,7 @@ class _Asked:
         return as_word(text.encode("latin-1") if self.is_bytes else text, self.flags)
 
     def takes(self, word: str, texts: Sequence[Text]) -> bool:
-        """Whether the pattern `word` matches one of the texts, repeated twice."""
+        """Whether the pattern `word` matches the whole of one of the texts written twice in a row."""
         for text in texts:
             found = self.meter.cost(word, "fullmatch", text * 2)
             if found and found[1]:
@@ -149,11 +167,13 @@ class _Asked:
 def culprits(
     meter: Meter, pattern: Text, flags: int, mode: str, verdict: Verdict, family: Family,
 ) -> Tuple[Tuple[int, int], ...]:
-    """Returns the parts at fault of a pattern, as spans in the pattern; none if they can't be told.
+    """Returns the spans of the parts at fault in a pattern; none if they aren't found, or for a degree below 2 or no class.
+
+    `mode` is how the pattern is used, `verdict` is its class in that mode, and `family` has texts that show the class.
 
     For an exponential pattern, this is the shortest repeated part that is exponential by itself and matches a repeated text of
-    the family. For a degree, these are the parts that match a repeated text, and whose repetition raises the degree. relint is
-    asked about each of these facts, so nothing is guessed.
+    the family. For a degree, these are the parts that match a repeated text, and whose repetition raises the degree; none is
+    inside another. A question that relint doesn't answer counts as denied.
     """
     try:
         asked = _Asked(meter, pattern, flags)
@@ -167,7 +187,11 @@ def culprits(
 def inner_loop(
     meter: Meter, pattern: Text, flags: int, family: Family, outer: Tuple[int, int],
 ) -> Optional[Tuple[int, int]]:
-    """Returns the shortest repeated part inside an exponential one that also matches a repeated text, or None."""
+    """Returns the span of the shortest repeated part inside the part `outer` that also matches a repeated text, or None.
+
+    The text is written twice in a row, and may be rotated to begin with another of its characters. The pattern must be one of
+    which `culprits` gave `outer`.
+    """
     asked = _Asked(meter, pattern, flags)
     for part in asked.parts:
         if outer[0] <= part.start and part.end <= outer[1] and (part.start, part.end) != outer:
@@ -180,7 +204,10 @@ def inner_loop(
 def shared_text(
     meter: Meter, pattern: Text, flags: int, family: Family, parts: Sequence[Tuple[int, int]],
 ) -> Optional[Text]:
-    """Returns a repeated text of the family that all of these parts match, or None."""
+    """Returns the first pump of the family that all parts with these spans match, written twice, or None if there is none.
+
+    The pattern must be one of which `culprits` gave the spans.
+    """
     asked = _Asked(meter, pattern, flags)
     words = [asked.word(it) for it in asked.parts if (it.start, it.end) in parts]
     for text in (it for it in family.pumps if it):
@@ -190,7 +217,11 @@ def shared_text(
 
 
 def _exponential(asked: _Asked, family: Family) -> Tuple[Tuple[int, int], ...]:
-    """The span of the part at fault in an exponential pattern, or none."""
+    """The span of the part at fault in an exponential pattern, or none: the shortest part that is exponential by itself.
+
+    It must also match some repeated text of the family, written twice in a row, perhaps rotated to begin with another of its
+    characters.
+    """
     for part in asked.parts:
         word = asked.word(part)
         if word is None or asked.meter.verdict(word, "fullmatch") != "exponential":
@@ -201,7 +232,11 @@ def _exponential(asked: _Asked, family: Family) -> Tuple[Tuple[int, int], ...]:
 
 
 def _overlapping(asked: _Asked, mode: str, degree: int, family: Family) -> Tuple[Tuple[int, int], ...]:
-    """The spans of the parts at fault in a pattern of this degree."""
+    """The spans of the parts at fault in a pattern of this degree, sorted, none inside another.
+
+    Each matches some repeated text of the family, written twice in a row, and the degree of the whole pattern is lower if this
+    part is repeated only as often as it must be.
+    """
     found: List[Part] = []
     for part in asked.parts:
         if any(part.start <= it.start and it.end <= part.end for it in found):
@@ -215,6 +250,6 @@ def _overlapping(asked: _Asked, mode: str, degree: int, family: Family) -> Tuple
 
 
 def _is_lower(line: str, degree: int) -> bool:
-    """Whether a verdict line of relint gives a degree below this one."""
+    """Whether a verdict line of relint, such as "degree 2", gives a degree below this one."""
     found = re.fullmatch(r"degree (\d+)", line)
     return found is not None and int(found.group(1)) < degree

@@ -2,6 +2,10 @@
 
 A buffer is judged once, by the thread that asks for its findings, one buffer at a time. What the cursor and the menu of fixes
 show is what was found for exactly the text that is there; else they show nothing. Only python-lsp-server imports this module.
+
+A document is the server's object for a buffer. Positions, ranges, diagnostics and actions are values of the language server
+protocol: a position has `line` and `character`, which count from 0, the latter in units of UTF-16; a range has a `start` and
+an `end`, which isn't in it.
 """
 from __future__ import annotations
 
@@ -26,7 +30,11 @@ NAME = "relint"
 
 @dataclass(frozen=True)
 class Kept:
-    """What was found for a text, or why there is no answer. `found` is also None if the configuration leaves the file out."""
+    """What was found for the text `text`.
+
+    `found` is None if there is no answer, and then `failure` says why; or if the configuration leaves the file out, and then
+    `failure` is "".
+    """
 
     text: str
     found: Optional[buffers.Judged]
@@ -34,14 +42,18 @@ class Kept:
 
 
 class Buffers:
-    """Judges buffers, and keeps what was found for the last ones."""
+    """Judges buffers, and keeps what was found for the MOST_BUFFERS that were judged last."""
 
     def __init__(self) -> None:
+        """Begins without buffers."""
         self._kept: Dict[str, Kept] = {}
         self._lock = threading.Lock()
 
     def judged(self, document: Any, anew: bool) -> Kept:
-        """Returns what is found for the text that a document has once all earlier requests are done."""
+        """Returns what is found for the text that a document has once all earlier requests are done.
+
+        A text that was judged is judged again only with `anew`.
+        """
         with self._lock:
             text = str(document.source)
             kept = self._kept.get(document.uri)
@@ -54,7 +66,10 @@ class Buffers:
             return kept
 
     def known(self, document: Any) -> Optional[buffers.Judged]:
-        """Returns what was found for the present text of a document, without waiting; None if it wasn't judged."""
+        """Returns what was found for the present text of a document, without waiting.
+
+        Returns None if that text wasn't judged yet, couldn't be, or is left out by the configuration.
+        """
         kept = self._kept.get(document.uri)
         return kept.found if kept is not None and kept.text == document.source else None
 
@@ -63,6 +78,7 @@ BUFFERS = Buffers()
 
 
 def _judged(text: str, path: str) -> Kept:
+    """What is found for a text, as the content of the file `path`, or why there is no answer."""
     try:
         return Kept(text, buffers.judged(text, path, MOST_IN_FULL))
     except buffers.NotJudged as error:
@@ -70,12 +86,15 @@ def _judged(text: str, path: str) -> Kept:
 
 
 def pylsp_settings(config: Any) -> Dict[str, Any]:
-    """Returns the default settings of the plugin; the server itself reads `enabled`."""
+    """Returns the default settings of the plugin; the server itself reads `enabled`. `config` isn't used."""
     return {"plugins": {NAME: {"enabled": True}}}
 
 
 def pylsp_lint(config: Any, workspace: Any, document: Any, is_saved: bool) -> List[Dict[str, Any]]:
-    """Returns the diagnostics of a document."""
+    """Returns the diagnostics of a document; if it can't be judged, one at its start that says why; none if it is left out.
+
+    With `is_saved`, it is judged anew even if its text was judged before. `config` and `workspace` aren't used.
+    """
     kept = BUFFERS.judged(document, bool(is_saved))
     if kept.failure:
         start = {"line": 0, "character": 0}
@@ -84,7 +103,10 @@ def pylsp_lint(config: Any, workspace: Any, document: Any, is_saved: bool) -> Li
 
 
 def pylsp_hover(config: Any, workspace: Any, document: Any, position: Dict[str, int]) -> Optional[Dict[str, Any]]:
-    """Returns what is known of the pattern at a position; None if there is none, so that the server asks other plugins."""
+    """Returns what is known of the pattern at a position, as a hover of the protocol.
+
+    Returns None if there is no pattern, or nothing is known of the present text. `config` and `workspace` aren't used.
+    """
     found = BUFFERS.known(document)
     lines = hover_lines(found, position) if found else []
     # (as plain text, since others may have written the pattern)
@@ -94,13 +116,20 @@ def pylsp_hover(config: Any, workspace: Any, document: Any, position: Dict[str, 
 def pylsp_code_actions(
     config: Any, workspace: Any, document: Any, range: Dict[str, Dict[str, int]], context: Any,
 ) -> List[Dict[str, Any]]:
-    """Returns the fixes for the findings in a range. Advice is left out, since the calls could notice the change."""
+    """Returns actions for the fixes of the findings in a range; none if the present text wasn't judged yet.
+
+    Advice is left out, since the calls could notice the change. `config`, `workspace` and `context` aren't used.
+    """
     found = BUFFERS.known(document)
     return list(actions(found, document.uri, range)) if found else []
 
 
 def diagnostics(found: buffers.Judged) -> Iterator[Dict[str, Any]]:
-    """Yields a diagnostic for each finding, for what is only warned of, and for what wasn't read or judged in time."""
+    """Yields a diagnostic for each finding, and for entries not read or judged in time; under `strict`, for all without class.
+
+    Exponential findings are errors, and others warnings. What is only warned of, and entries without a class, are
+    informations. Findings that no use reaches are hints.
+    """
     warned = {id(it.entry) for it in found.looked.reached} & {id(it) for it in found.given.warned}
     for one in found.looked.reached:
         level = INFORMATION if id(one.entry) in warned else ERROR if one.judged.kind == "exponential" else WARNING
@@ -113,15 +142,20 @@ def diagnostics(found: buffers.Judged) -> Iterator[Dict[str, Any]]:
 
 
 def _words(entry: Entry) -> str:
+    """The message for an entry: its call, and its class or why it has none."""
     return visible(f"{entry.call}: {plain.outcome_words(entry)}" if entry.call else plain.outcome_words(entry))
 
 
 def _diagnostic(where: Dict[str, Any], level: int, rule: int, words: str) -> Dict[str, Any]:
+    """A diagnostic at the range `where`, with the message `words` and the code of the rule with this number.
+
+    `level` is its severity in the protocol, from ERROR (1) to HINT (4).
+    """
     return {"source": NAME, "range": where, "severity": level, "code": f"RLT{rule}", "message": words}
 
 
 def hover_lines(found: buffers.Judged, position: Dict[str, int]) -> List[str]:
-    """Returns lines about the pattern at a position: class, growth, loops at fault, and offers; no lines if there is none."""
+    """Returns lines about the first pattern at a position: class, growth, loops at fault, and offers; none without one."""
     findings = {id(it.entry): it for it in found.looked.every()}
     for entry in found.given.report.entries:
         if entry.call and _holds(_range_of(found, entry), position):
@@ -136,6 +170,10 @@ def _entry_lines(entry: Entry) -> List[str]:
 
 
 def _finding_lines(found: buffers.Judged, one: Finding) -> List[str]:
+    """The lines for a finding: its class, its growth, its class under the uses, the loops at fault, and the offers.
+
+    What isn't known has no line.
+    """
     verdict = one.judged.verdict()
     head = f"relint: {one.judged.call}: {plain.class_word(verdict) if verdict else ''} [{rules.code(one.judged)}]"
     lines = [head, one.words(), one.used_words(found.given.compile_as), one.fault_words()]
@@ -144,7 +182,10 @@ def _finding_lines(found: buffers.Judged, one: Finding) -> List[str]:
 
 
 def actions(found: buffers.Judged, uri: str, wanted: Dict[str, Dict[str, int]]) -> Iterator[Dict[str, Any]]:
-    """Yields an action for each fix of a finding that a range touches."""
+    """Yields an action for each fix of a finding that the range `wanted` touches; it replaces the literals of the pattern.
+
+    Only fixes after which the calls see the same spans and groups (tier "a") are yielded. `uri` is the document's.
+    """
     for one in found.looked.reached:
         where = _range_of(found, one.entry)
         if not _touches(where, wanted):
@@ -159,7 +200,10 @@ def actions(found: buffers.Judged, uri: str, wanted: Dict[str, Dict[str, int]]) 
 
 
 def _range_of(found: buffers.Judged, entry: Entry) -> Dict[str, Dict[str, int]]:
-    """The range of an entry's literals, or its place if they aren't found."""
+    """The range of an entry's literals; an empty range at its place, or else the start of the file, if they aren't found.
+
+    If the source can't be read, the range is empty at the start of the line.
+    """
     source, site = site_of(found.sources, entry)
     place = entry.place or Place(1, 1)
     if source is None:
@@ -170,26 +214,32 @@ def _range_of(found: buffers.Judged, entry: Entry) -> Dict[str, Dict[str, int]]:
 
 
 def _position(source: Source, offset: int) -> Dict[str, int]:
-    """A position as editors count it: from 0, in units of UTF-16."""
+    """The position of an offset in the text of a source, as the protocol counts it."""
     place = source.place(offset)
     front = source.text[offset - place.column + 1:offset]
     return {"line": place.line - 1, "character": len(front.encode("utf-16-le", "surrogatepass")) // 2}
 
 
 def _key(position: Dict[str, int]) -> Tuple[int, int]:
+    """A position as a pair, which can be compared."""
     return position["line"], position["character"]
 
 
 def _holds(where: Dict[str, Dict[str, int]], position: Dict[str, int]) -> bool:
+    """Whether a position is in a range, whose end isn't in it."""
     return _key(where["start"]) <= _key(position) < _key(where["end"])
 
 
 def _touches(where: Dict[str, Dict[str, int]], wanted: Dict[str, Dict[str, int]]) -> bool:
+    """Whether two ranges have a position in common; here their ends count too."""
     return _key(where["start"]) <= _key(wanted["end"]) and _key(wanted["start"]) <= _key(where["end"])
 
 
 def _announce() -> None:
-    """Marks the functions that the server calls. The hover comes before the server's own, which knows nothing of patterns."""
+    """Marks the four functions that the server calls as its hooks. Raises ImportError if python-lsp-server isn't installed.
+
+    The server takes the first hover that isn't None, so `pylsp_hover` is marked to be asked before all others.
+    """
     mark = importlib.import_module("pylsp").hookimpl
     for it in (pylsp_settings, pylsp_lint, pylsp_code_actions):
         mark(it)

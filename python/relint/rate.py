@@ -30,12 +30,15 @@ def python_name() -> str:
 
 
 def machine_name() -> str:
-    """Returns a name that tells this machine from others."""
+    """Returns the network name of this machine and the type of its processor, with a blank between them."""
     return f"{platform.node()} {platform.machine()}"
 
 
 def folder() -> Optional[str]:
-    """Returns the folder of the file: `relint` in $XDG_CACHE_HOME or ~/.cache; None if the user has no home folder."""
+    """Returns the folder of the file: `relint` in $XDG_CACHE_HOME, if that is an absolute path, or else in ~/.cache.
+
+    Returns None if the path of the home folder isn't absolute either.
+    """
     cache = os.environ.get("XDG_CACHE_HOME", "")
     if not os.path.isabs(cache):
         home = os.path.expanduser("~")
@@ -50,7 +53,7 @@ def file_name() -> Optional[str]:
 
 
 def of_data(data: bytes) -> Optional[int]:
-    """Returns the rate in the content of a file, or None if it has no valid one for this Python on this machine."""
+    """Returns the steps per second in the content of a file; None if it has no valid number for this Python and machine."""
     try:
         found: Any = json.loads(data.decode("ascii"))
     except (ValueError, RecursionError):
@@ -64,7 +67,7 @@ def of_data(data: bytes) -> Optional[int]:
 
 
 def kept() -> Optional[int]:
-    """Returns the steps per second that were kept for this Python on this machine, or None if none were."""
+    """Returns the steps per second that were kept for this Python on this machine, or None if none were or can be read."""
     path = file_name()
     if path is None:
         return None
@@ -75,7 +78,7 @@ def kept() -> Optional[int]:
 
 
 def keep(rate: int) -> str:
-    """Writes a rate to the file, and returns its path. Raises WriteError."""
+    """Writes the steps per second to the file, and returns its path. Raises WriteError if the file can't be written."""
     path = file_name()
     if path is None:
         raise WriteError("the user has no home folder")
@@ -89,18 +92,27 @@ def keep(rate: int) -> str:
 
 
 def k_of(family: Family, length: int) -> Optional[int]:
-    """Returns the number k of the text of a family that has `length` characters; None if the length doesn't tell it."""
+    """Returns the number k of the text of a family that has `length` characters or bytes.
+
+    Returns None if no text has, or if all texts have the same length.
+    """
     grows, left = sum(map(len, family.pumps)), length - sum(map(len, family.heads))
     return left // grows if grows and left >= 0 and left % grows == 0 else None
 
 
 def longest(times: Sequence[Tuple[int, float]]) -> Optional[Tuple[int, float]]:
-    """Returns the length and the time of the longest text whose match took long enough to be reliable, or None."""
+    """Returns the last pair of a length and seconds with at least LEAST_SECONDS, or None if there is none.
+
+    `times` is sorted by length, so that is the longest text whose match took long enough to be reliable.
+    """
     return next(((length, took) for length, took in reversed(times) if took >= LEAST_SECONDS), None)
 
 
 def measured(samples: Iterator[Tuple[int, float]]) -> Optional[int]:
-    """Returns the steps per second: the median of the samples, each with its steps and seconds; None if there are none."""
+    """Returns the steps per second: the median of the first MOST_SAMPLES samples, each with its steps and seconds.
+
+    The seconds must be above 0. Returns None if there are no samples, or if the median isn't from LEAST to MOST.
+    """
     rates: List[float] = []
     for steps, took in samples:
         rates.append(steps / took)

@@ -1,7 +1,9 @@
 """Reads reports of relint in JSON.
 
 `read_report` takes the text of `relint check --format json` (report version 1 or 2) and returns a `Report`. Anyone may have
-written the text, so everything is checked: its size, its types, its numbers, and the names in it.
+written the text, so everything is checked: its size, its types, its numbers, and the names in it. The private functions that
+read a part of it raise ReportError if its values are wrong, and KeyError, TypeError or AttributeError if it lacks a key or has
+another type; `_entries` turns all of these into ReportError.
 """
 from __future__ import annotations
 
@@ -37,7 +39,7 @@ class ReportError(Exception):
 
 @dataclass(frozen=True)
 class Place:
-    """A place in a source. Lines and columns count from 1; columns count characters."""
+    """A place in a source. Lines and columns count from 1; columns count code points."""
 
     line: int
     column: int
@@ -45,13 +47,16 @@ class Place:
 
 @dataclass(frozen=True)
 class Family:
-    """Texts that show a class: text k is heads[0], then each pump k times, followed by the next head."""
+    """Texts that show a class: text k is heads[0], then each pump k times, followed by the next head.
+
+    There is one head more than pumps, and all are `str` or all are `bytes`.
+    """
 
     heads: Tuple[Text, ...]
     pumps: Tuple[Text, ...]
 
     def text(self, k: int) -> Text:
-        """Returns text k of the family."""
+        """Returns text k of the family; `k` is at least 0."""
         parts: List[Any] = [self.heads[0]]
         for pump, head in zip(self.pumps, self.heads[1:]):
             parts += [pump * k, head]
@@ -62,7 +67,11 @@ class Family:
 
 @dataclass(frozen=True)
 class Verdict:
-    """A class: `kind` is degree, exponential or undecided. The fields that don't belong to the kind are None."""
+    """The class of a pattern: how the steps of a match grow with the length of the text, at worst.
+
+    `kind` is degree (a polynomial of degree `degree`), exponential or undecided. An undecided pattern exceeded the limit named
+    by `limit`, whose value is `over`. Fields that don't belong to the kind are None.
+    """
 
     kind: str
     degree: Optional[int] = None
@@ -70,7 +79,7 @@ class Verdict:
     over: Optional[int] = None
 
     def words(self) -> str:
-        """Returns the verdict as relint prints it."""
+        """Returns the verdict as relint prints it: "degree 2", "exponential" or, say, "undecided pairs over 600"."""
         if self.kind == "degree":
             return f"degree {self.degree}"
         if self.kind == "undecided":
@@ -80,9 +89,16 @@ class Verdict:
 
 @dataclass(frozen=True)
 class Entry:
-    """One entry of a report. `place` is that of the pattern's first literal, and `fault` is where relint refuses the pattern.
+    """One entry of a report, about a pattern or a whole file. `path` is the file's, and `kind` is one of KINDS.
 
-    Only entries of relint-wide have `beyond`; they aren't proved as the others are.
+    `place` is where the pattern's first literal begins, or where relint refuses the file. `call` is the function of `re` that
+    takes the pattern, and None if the entry is about a file. `degree`, `limit` and `over` are as in `Verdict`. `cause` names
+    why relint refuses a pattern or file, and `fault` is the place of what it refuses in a literal. `family` has texts that
+    show the class. `suggest` is a pattern to put in its place, and `becomes` is the class of that one. `dropped` are the
+    places of the branches that can be left out, and `merged` those of the quantifiers that can be taken out. `over_limit` are
+    those of the branches of which relint can't tell, since the test exceeded a limit; in JSON they are `passed`. Only entries
+    of relint-wide have `beyond`, which says how they were found; they aren't proved as the others are. A field that the report
+    doesn't give is None or empty.
     """
 
     path: str
@@ -97,19 +113,19 @@ class Entry:
     family: Optional[Family] = None
     dropped: Tuple[Place, ...] = ()
     merged: Tuple[Place, ...] = ()
-    passed: Tuple[Place, ...] = ()
+    over_limit: Tuple[Place, ...] = ()
     suggest: Optional[Text] = None
     becomes: Optional[Verdict] = None
     beyond: Optional[Beyond] = None
 
     def verdict(self) -> Optional[Verdict]:
-        """Returns the entry's class, or None if it wasn't judged."""
+        """Returns the entry's class, which may be undecided, or None if it wasn't judged."""
         if self.kind in ("degree", "exponential", "undecided"):
             return Verdict(self.kind, self.degree, self.limit, self.over)
         return None
 
     def outcome(self) -> str:
-        """Returns the outcome as the head line of relint's report says it."""
+        """Returns the outcome as relint's report in text says it, such as "degree 2" or "refused lookaround at 3:14"."""
         verdict = self.verdict()
         if verdict:
             return verdict.words()
@@ -129,7 +145,10 @@ class Entry:
 
 @dataclass(frozen=True)
 class Report:
-    """A whole report: its entries in order, and its counts."""
+    """A whole report: relint's own entries in order, then those of relint-wide; and the counts, of relint's own entries only.
+
+    `findings`, `refused` and `undecided` are numbers of entries, and `version` is the version of the report's form.
+    """
 
     entries: Tuple[Entry, ...]
     findings: int
@@ -150,7 +169,10 @@ def read_text(quoted: Any) -> Text:
 
 
 def _text(found: Any, key: str, known: Optional[Collection[str]] = None) -> str:
-    """The text under a key of an object, one of the known ones if these are given. Raises ReportError."""
+    """The `str` under the key of an object of JSON; it must be one of those in `known` if that is given.
+
+    Raises ReportError if it isn't a `str` or one of those, is empty, has a null character, or can't be encoded as UTF-8.
+    """
     value = found[key]
     if not isinstance(value, str) or not value or "\0" in value or (known is not None and value not in known):
         raise ReportError(f"{key} is no text, or none that relint writes")
@@ -162,7 +184,7 @@ def _text(found: Any, key: str, known: Optional[Collection[str]] = None) -> str:
 
 
 def _number(found: Any, key: str, least: int = 0, most: int = MOST_NUMBER) -> int:
-    """The number under a key of an object. Raises ReportError if it isn't a whole number in the range."""
+    """The number under the key of an object of JSON. Raises ReportError if it isn't a whole number from `least` to `most`."""
     value = found[key]
     if type(value) is not int or not least <= value <= most:
         raise ReportError(f"{key} is no number from {least} to {most}")
@@ -170,20 +192,24 @@ def _number(found: Any, key: str, least: int = 0, most: int = MOST_NUMBER) -> in
 
 
 def _place(found: Any) -> Place:
+    """The place that an object of JSON has under `line` and `column`."""
     return Place(_number(found, "line", 1), _number(found, "column", 1))
 
 
 def _places(found: Any, key: str) -> Tuple[Place, ...]:
+    """The places in the list under the key of an object of JSON; none if it lacks the key."""
     return tuple(_place(it) for it in _list(found.get(key, [])))
 
 
 def _list(value: Any) -> List[Any]:
+    """The value itself. Raises ReportError if it isn't a list."""
     if not isinstance(value, list):
         raise ReportError("a list is no list")
     return value
 
 
 def _family(found: Any) -> Family:
+    """The family that an object of JSON describes, of at most MOST_CODES characters in its heads and pumps together."""
     heads = tuple(read_text(it) for it in _list(found["heads"]))
     pumps = tuple(read_text(it) for it in _list(found["pumps"]))
     if len(heads) != len(pumps) + 1 or len({type(it) for it in (*heads, *pumps)}) != 1:
@@ -194,6 +220,7 @@ def _family(found: Any) -> Family:
 
 
 def _verdict(found: Any) -> Verdict:
+    """The verdict that an object of JSON has under `kind` and the keys that belong to it."""
     kind = _text(found, "kind", KINDS[:3])
     if kind == "degree":
         return Verdict(kind, _number(found, "degree", 0, MOST_DEGREE))
@@ -203,7 +230,7 @@ def _verdict(found: Any) -> Verdict:
 
 
 def _entry(found: Any) -> Entry:
-    """The entry that an object of JSON is. Raises ReportError, KeyError, TypeError or AttributeError if it is none."""
+    """The entry that a value of JSON describes. Raises ReportError, KeyError, TypeError or AttributeError if it is none."""
     kind = _text(found, "kind", KINDS)
     verdict = _verdict(found) if kind in KINDS[:3] else Verdict(kind)
     return Entry(
@@ -219,14 +246,14 @@ def _entry(found: Any) -> Entry:
         family=_family(found["family"]) if "family" in found else None,
         dropped=_places(found, "dropped"),
         merged=_places(found, "merged"),
-        passed=_places(found, "passed"),
+        over_limit=_places(found, "passed"),
         suggest=read_text(found["suggest"]) if "suggest" in found else None,
         becomes=_verdict(found["becomes"]) if "becomes" in found else None,
     )
 
 
 def _beyond(found: Any) -> Entry:
-    """The entry of relint-wide that an object of JSON is. Raises the same as `_entry`."""
+    """The entry of relint-wide that a value of JSON describes. Raises the same as `_entry`."""
     try:
         return replace(_entry(found), beyond=read_beyond(found["beyond"]))
     except BeyondError as error:
@@ -234,7 +261,10 @@ def _beyond(found: Any) -> Entry:
 
 
 def _entries(found: List[Any], read: Callable[[Any], Entry] = _entry) -> Tuple[Entry, ...]:
-    """The entries of a list. Raises ReportError, which names the number of the wrong entry."""
+    """The entries in a list of JSON, each read by `read`.
+
+    Raises ReportError for the first one that is wrong, and names its number, from 1.
+    """
     entries: List[Entry] = []
     for it in found:
         try:
@@ -247,7 +277,7 @@ def _entries(found: List[Any], read: Callable[[Any], Entry] = _entry) -> Tuple[E
 
 
 def read_report(text: Text) -> Report:
-    """Returns the report in a JSON text. Raises ReportError if it isn't one, or is larger than any that relint writes."""
+    """Returns the report in a JSON text. Raises ReportError if it isn't one, or exceeds the limits of this module."""
     found = _json(text)
     if not isinstance(found, dict) or found.get("version") not in (1, 2) or not isinstance(found.get("entries"), list):
         raise ReportError("this JSON is no report of relint check --format json")
@@ -260,7 +290,10 @@ def read_report(text: Text) -> Report:
 
 
 def _json(text: Text) -> Any:
-    """The value of a JSON text. Raises ReportError if it isn't JSON, or would take too much memory."""
+    """The value of a JSON text. Raises ReportError if it isn't JSON in UTF-8, or would take too much memory.
+
+    Raises it too for any number except whole ones of fewer than 20 characters.
+    """
     data = text.encode("utf-8", "surrogatepass") if isinstance(text, str) else text
     if len(data) > MOST_BYTES:
         raise ReportError(f"the report has more than {MOST_BYTES:,} bytes")
@@ -275,11 +308,19 @@ def _json(text: Text) -> Any:
 
 
 def _whole(digits: str) -> int:
+    """The whole number that these characters, digits with perhaps a `-` in front, write.
+
+    Raises ReportError if they are 20 or more characters.
+    """
     # (Python takes long to compute the value of a million digits)
     return int(digits) if len(digits) < 20 else _no_number(digits)
 
 
 def _no_number(_: str) -> int:
+    """Always raises ReportError, whatever the argument; so it can be called where a number is wanted.
+
+    The JSON parser calls it for fractions, exponents, NaN and infinities, and `_whole` for numbers that are too long.
+    """
     raise ReportError("the report has a number that relint doesn't write")
 
 
@@ -292,7 +333,10 @@ def read_stream(stream: IO[bytes]) -> bytes:
 
 
 def check_paths(report: Report, folders: Sequence[str]) -> None:
-    """Raises ReportError if an entry names a path outside of all these folders, so that no tool opens it."""
+    """Raises ReportError if an entry names a path outside of all these folders.
+
+    A path that is one of the folders lies in it. Only the texts of the paths are compared.
+    """
     paths = dict.fromkeys(it.path for it in report.entries)
     lost = next((it for it in paths if not is_below(it, folders)), None)
     if lost is not None:
@@ -306,6 +350,6 @@ def own_of(entries: Sequence[Entry]) -> Tuple[Entry, ...]:
 
 
 def file_of(entry: Entry) -> str:
-    """Returns the path of an entry's file, which is that of the notebook if the entry is in a cell."""
+    """Returns the path of an entry's file; for an entry in a cell, the path of the notebook, without the cell."""
     is_in_cell = entry.beyond is not None and entry.beyond.cell is not None
     return entry.path.rpartition(CELL)[0] if is_in_cell else entry.path

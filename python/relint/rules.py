@@ -21,16 +21,16 @@ BEYOND_NAMES: Dict[str, str] = {ELSEWHERE: "JudgedElsewhere", HANG: "SeenToHang"
 
 
 def number(entry: Entry) -> int:
-    """Returns the number of an entry's rule: 100 for exponential, 100 and the degree, or 200 to 203 without a class.
+    """Returns the number of an entry's rule: 100 for exponential, 100 plus the degree, or 200 to 203 without a class.
 
-    For a class of an entry of relint-wide, it is 300 or 350 instead of 100.
+    A degree counts as at least 1 and at most LAST_DEGREE. For an exponential entry or a degree of relint-wide, 300 (judged
+    elsewhere) or 350 (seen to hang) takes the place of 100, and the degree counts as at most LAST_DEGREE_BEYOND.
     """
-    if entry.beyond is not None and entry.kind in ("exponential", "degree"):
-        return BEYOND[entry.beyond.kind] + min(entry.degree or 0, LAST_DEGREE_BEYOND)
+    first, last = (EXPONENTIAL, LAST_DEGREE) if entry.beyond is None else (BEYOND[entry.beyond.kind], LAST_DEGREE_BEYOND)
     if entry.kind == "exponential":
-        return EXPONENTIAL
+        return first
     if entry.kind == "degree":
-        return 100 + min(max(entry.degree or 0, 1), LAST_DEGREE)
+        return first + min(max(entry.degree or 0, 1), last)
     if entry.kind == "undecided":
         return UNDECIDED
     if entry.kind == "refused":
@@ -44,7 +44,7 @@ def code(entry: Entry) -> str:
 
 
 def name(rule: int) -> str:
-    """Returns the name of a rule in one word, as SARIF wants it."""
+    """Returns the name of a rule, given its number, in one word, such as "PatternOfDegree3"."""
     if rule in NAMES:
         return NAMES[rule]
     for kind, first in sorted(BEYOND.items(), key=lambda it: -it[1]):
@@ -54,11 +54,15 @@ def name(rule: int) -> str:
 
 
 def _degree_words(degree: int, last: int) -> str:
+    """The part of a rule's name for a degree; the degree `last` counts for all higher ones too. 0 gives "Exponential"."""
     return f"OfDegree{degree}" + ("OrMore" if degree == last else "") if degree else "Exponential"
 
 
 def range_of(heading: str) -> Optional[Tuple[int, int]]:
-    """Returns the numbers of the first and the last rule that a heading in the page of rules names; None if it names none."""
+    """Returns the numbers of the first and the last rule that a heading names before its colon; None if it names none.
+
+    "RLT101 to RLT199: .." gives (101, 199).
+    """
     words = heading.partition(":")[0].split()
     numbers: List[int] = [int(it[3:]) for it in words if it.startswith("RLT") and it[3:].isdigit()]
     return (numbers[0], numbers[-1]) if numbers else None

@@ -1,4 +1,8 @@
-"""Writes reports in SARIF 2.1.0, with rules, help, levels, and fingerprints that stay the same if a line moves."""
+"""Writes reports in SARIF 2.1.0, with rules, help, levels, and fingerprints that stay the same if a line moves.
+
+Values for JSON are dictionaries in the form that SARIF gives to the object of that name. `judged` is the entry of a finding
+for its costliest use, if that is known.
+"""
 from __future__ import annotations
 
 import hashlib
@@ -29,18 +33,19 @@ SHORT = {
 
 
 def _kind(entry: Entry) -> str:
-    """The key of an entry's description in SHORT."""
+    """The key of an entry's description in SHORT: how relint-wide found it, or its kind, or "refused" for other kinds."""
     if entry.beyond is not None and entry.verdict() is not None:
         return entry.beyond.kind
     return entry.kind if entry.kind in SHORT else "refused"
 
 
 def _level(entry: Entry) -> str:
+    """The level of an entry: error for an exponential one, warning for a degree, note for the others."""
     return LEVELS.get(entry.kind, "note")
 
 
 def _help(rule: int) -> str:
-    """The text about a rule in the page of rules, or a short message if the pages aren't installed."""
+    """The text about a rule, given its number, in the page of rules; if there is none, the message that says so."""
     try:
         return explain.rule(rule)[1]
     except explain.NotExplained as error:
@@ -48,7 +53,7 @@ def _help(rule: int) -> str:
 
 
 def _rule(entry: Entry) -> Dict[str, Any]:
-    """The rule of an entry as values for JSON, with its full help."""
+    """The rule of an entry as values for JSON, with its text in the page of rules as help."""
     number, level, short = rules.number(entry), _level(entry), SHORT[_kind(entry)]
     is_judged = entry.kind in LEVELS
     precision = "very-high" if entry.beyond is None else "high"
@@ -81,7 +86,10 @@ def _has_half(path: str) -> bool:
 
 
 def _region(entry: Entry, source: Optional[Source], site: Optional[Site]) -> Optional[Dict[str, int]]:
-    """The region of an entry's pattern in its file, or None if the entry has no place."""
+    """The region of an entry's pattern in its file as values for JSON, or None if the entry has no place.
+
+    `site` is the pattern in the source `source`. If either is None, the region of an entry of relint has only its start.
+    """
     if entry.place is None:
         return None
     region = {"startColumn": entry.place.column, "startLine": entry.place.line}
@@ -97,10 +105,11 @@ class _Prints:
     """Makes fingerprints of entries: of path, call, class, pattern and the number among equal entries, but not of the line."""
 
     def __init__(self) -> None:
+        """Begins a report, in which no entry was met yet."""
         self._seen: Dict[str, int] = {}
 
     def of(self, entry: Entry, site: Optional[Site]) -> str:
-        """Returns the fingerprint of the next entry of the report."""
+        """Returns the fingerprint of the next entry, 64 hexadecimal digits; `site` is its pattern, or None if not known."""
         pattern = f"{plain.quoted(site.value)} {site.flags}" if site else ""
         beyond = [entry.beyond.kind] if entry.beyond else []
         key = json.dumps([entry.path, entry.call, entry.kind, entry.degree, entry.limit, entry.cause, pattern, *beyond])
@@ -119,7 +128,7 @@ def _message(entry: Entry, found: Optional[Finding]) -> str:
         parts.append(f"Culprit: {fault}.")
     if entry.beyond is not None:
         parts.append(f"{KIND_WORDS[entry.beyond.kind].capitalize()}: {plain.quoted(entry.beyond.pattern)}")
-        parts += [it for it in (entry.beyond.held_words(entry.path), *entry.beyond.notes) if it]
+        parts += [it for it in (entry.beyond.holder_words(entry.path), *entry.beyond.notes) if it]
     code = found.code()
     if code:
         parts.append("To see it: " + plain.shell_line(code))
@@ -129,6 +138,10 @@ def _message(entry: Entry, found: Optional[Finding]) -> str:
 
 
 def _result(entry: Entry, found: Optional[Finding], sources: Sources, prints: _Prints, index: int) -> Dict[str, Any]:
+    """The result for an entry as values for JSON; `found` is its finding, or None if it isn't one.
+
+    `index` is the position of its rule in the list of rules, from 0. `prints` makes the fingerprint.
+    """
     source, site = (found.source, found.site) if found else site_of(sources, entry)
     place: Dict[str, Any] = {"artifactLocation": {"uri": _uri(entry.path)}}
     region = _region(entry, source, site)
@@ -147,6 +160,7 @@ def _result(entry: Entry, found: Optional[Finding], sources: Sources, prints: _P
 
 
 def _judged(entry: Entry, found: Optional[Finding]) -> Entry:
+    """The entry for the costliest use of a finding's pattern; the entry itself if it isn't a finding."""
     return found.judged if found else entry
 
 
@@ -162,12 +176,11 @@ def _fixes(found: Finding, region: Dict[str, int]) -> List[Dict[str, Any]]:
     } for it in found.offers if it.kind == "fix"]
 
 
-def document(
-    entries: Sequence[Entry], found: Sequence[Finding], sources: Sources, passed: str = ""
-) -> str:
-    """Returns the report in SARIF, on one line: the findings, and the entries that weren't decided or analysed.
+def document(entries: Sequence[Entry], found: Sequence[Finding], sources: Sources, unlooked: str = "") -> str:
+    """Returns the report in SARIF, on one line: the entries of the findings, and the entries that aren't of a degree.
 
-    It describes the rules that the results name, each with its page as help. `passed` says what wasn't looked at.
+    `found` are the findings among the entries. The rules that the results name are described, each with its text in the page
+    of rules as help. `unlooked` says what wasn't looked at, or is "".
     """
     known = {id(it.entry): it for it in found}
     shown = [it for it in entries if id(it) in known or it.kind != "degree"]
@@ -179,8 +192,8 @@ def document(
     said = version()
     driver = {"name": "relint", "rules": [_rule(first[it]) for it in order], "semanticVersion": said, "version": said}
     run: Dict[str, Any] = {"columnKind": "unicodeCodePoints", "results": results, "tool": {"driver": driver}}
-    if passed:
-        notes = [{"level": "note", "message": {"text": passed}}]
+    if unlooked:
+        notes = [{"level": "note", "message": {"text": unlooked}}]
         run["invocations"] = [{"executionSuccessful": True, "toolExecutionNotifications": notes}]
     whole = {"$schema": "https://json.schemastore.org/sarif-2.1.0.json", "runs": [run], "version": "2.1.0"}
     return json.dumps(whole, separators=(",", ":"), sort_keys=True)

@@ -1,6 +1,7 @@
 """Python's rules for scopes: which nodes have a scope of their own, which parts of them are read in it, and what a name means.
 
-Each walk over a source has a kind of binding of its own, such as a node or a value. The rules are the same for all.
+A binding says how a name gets its value. Each walk over a source has its own type of binding, `Bound`; the rules are the same
+for all.
 """
 from __future__ import annotations
 
@@ -21,9 +22,10 @@ NAMED_BY_TEXT = {"MatchAs": "name", "MatchStar": "name", "MatchMapping": "rest",
 
 @dataclass(eq=False)
 class Scope(Generic[Bound]):
-    """A scope and its bindings. `kind` is module, class, function (for a lambda too) or comprehension.
+    """A scope and its bindings by name. `kind` is module, class, function (for a lambda too) or comprehension.
 
-    `outer` has the names that are declared to be of another scope, with the word that declares them: global or nonlocal.
+    `node` is the node whose scope it is, and `parent` is the scope around it, or None for a module. `outer` has the names that
+    are declared to be of another scope, with the word that declares them: global or nonlocal.
     """
 
     kind: str
@@ -54,7 +56,8 @@ class Scope(Generic[Bound]):
     def lookup(self, name: str) -> Tuple[Optional["Scope[Bound]"], List[Bound]]:
         """Returns the scope in which a name is found, and its bindings there; None and no bindings if it isn't found.
 
-        Names bound in the body of a class are found only from that body itself, not from scopes inside of it.
+        Names bound in the body of a class are found only from that body itself, not from scopes inside of it. A name that is
+        declared `global` is found in the module, even if it has no bindings there.
         """
         at: Optional[Scope[Bound]] = self
         while at is not None:
@@ -75,7 +78,7 @@ class Scope(Generic[Bound]):
 class Part(NamedTuple):
     """A part of a node that has a scope: the part, the node that it is directly in, and whether it is read in that scope.
 
-    `again` says that the part may be run any number of times, or never, each time the whole is run.
+    `again` says that the part may be run any number of times, or never, each time the node with the scope is run.
     """
 
     node: ast.AST
@@ -92,14 +95,17 @@ def kind_of(node: ast.AST) -> Optional[str]:
 
 
 def parameters(node: Function) -> List[ast.arg]:
-    """Returns the parameters of a function, which are bound in its scope."""
+    """Returns the parameters of a function, which are bound in its scope: those with a star come last."""
     given = node.args
     named = [*getattr(given, "posonlyargs", []), *given.args, *given.kwonlyargs]
     return [it for it in (*named, given.vararg, given.kwarg) if it is not None]
 
 
 def parts(node: ast.AST) -> Iterator[Part]:
-    """Yields the parts of a node that has a scope of its own, except the names of its parameters."""
+    """Yields the parts of a node that has a scope of its own: a function, a lambda, a class or a comprehension.
+
+    The names of parameters aren't parts, but their annotations and defaults are.
+    """
     if isinstance(node, FUNCTIONS):
         yield from _parts_of_function(node)
     elif isinstance(node, ast.ClassDef):

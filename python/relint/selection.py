@@ -1,7 +1,7 @@
 """Finds the files that a run looks at: the files that are named, and the Python files below the folders that are named.
 
-Files below these folders that aren't looked at are counted: notebooks, stubs, links, and what a glob or the default list
-leaves out.
+A named path is one that the user gives; a glob is one of the forms in the user's exclusions. Files below named folders that
+aren't looked at are counted: notebooks, stubs, links, and what a glob or the default list leaves out.
 """
 from __future__ import annotations
 
@@ -22,11 +22,11 @@ FILE, LINK, GONE = "file", "link", "gone"
 
 @dataclass
 class Selection:
-    """The files that a run looks at, in order, and counts of what it doesn't look at.
+    """The files that a run looks at, in order, and counts of the files that it doesn't look at.
 
     `lost` are paths that can't be given to relint because they aren't UTF-8; `too_deep` are folders that lie too deep. Only
-    relint-wide looks at notebooks; `takes_notebooks` says that they count as looked at. `named_left_out` counts the named
-    files that a glob leaves out.
+    relint-wide looks at notebooks; `takes_notebooks` says that they count as looked at. `environments` counts files in
+    virtual environments that git tracks. `named_left_out` counts the named files that a glob leaves out.
     """
 
     exclusions: Exclusions
@@ -42,7 +42,10 @@ class Selection:
     _met: Dict[str, None] = field(default_factory=dict)
 
     def add(self, path: str) -> None:
-        """Adds a file, or a folder that can't be listed, unless it was added before."""
+        """Adds a file, or a folder that can't be listed, unless it was added before.
+
+        A path that isn't UTF-8 is added to `lost`.
+        """
         if path not in self._met:
             self._met[path] = None
             (self.files if is_utf8(path) else self.lost).append(path)
@@ -52,7 +55,7 @@ class Selection:
         return not (self.files or self.lost or self.too_deep or self.takes_notebooks and self.notebooks)
 
     def unlooked(self) -> str:
-        """Returns words for what isn't looked at and what is left out; "" if there is nothing."""
+        """Returns words for how many files and folders aren't looked at or are left out by exclusions; "" if none are."""
         notebooks = 0 if self.takes_notebooks else len(self.notebooks)
         counts = ((notebooks, "notebook"), (self.stubs, "stub file"), (self.links, "link"))
         parts = [plain.counted(count, one) for count, one in counts if count]
@@ -78,10 +81,11 @@ def is_utf8(text: str) -> bool:
 def selected(
     paths: Sequence[str], exclusions: Exclusions, tracked: bool = False, bare: bool = False, notebooks: bool = False,
 ) -> Selection:
-    """Returns the files that a run over the paths looks at: in the order named, and below a folder in relint's order.
+    """Returns the files that a run over the paths looks at: in the order named, and below a folder by the bytes of the names.
 
-    With `tracked`, only files that git tracks are taken. With `bare`, paths below the current folder have no `./` in front.
-    `notebooks` says whether the run looks at notebooks. Raises git.GitError.
+    With `tracked`, of paths that are there, only files that git tracks are taken, in git's order. With `bare`, files below a
+    path `.` have no `./` in front. `notebooks` says whether the run looks at notebooks. Raises git.GitError if git can't list
+    the files.
     """
     found = Selection(exclusions, takes_notebooks=notebooks)
     for path in paths:
@@ -96,6 +100,10 @@ def selected(
 
 
 def _add_named(found: Selection, path: str) -> None:
+    """Adds a named path that isn't a folder: a notebook always, and another file unless a glob leaves it out.
+
+    A file that is left out is counted.
+    """
     if path.endswith(NOTEBOOK):
         found.notebooks.append(path)
     elif found.exclusions.takes_named(path):
@@ -105,7 +113,10 @@ def _add_named(found: Selection, path: str) -> None:
 
 
 def _add_below(found: Selection, top: str) -> None:
-    """Adds the sources below a folder, and counts what isn't looked at there."""
+    """Adds the sources below the folder `top`, and counts what isn't looked at there; "" is the current folder.
+
+    A folder that can't be listed is added itself, so that relint reports it.
+    """
     left: List[Tuple[_Child, int]] = [(_Child(top, True, False, False), 0)]
     while left:
         child, level = left.pop()
@@ -122,6 +133,8 @@ def _add_below(found: Selection, top: str) -> None:
 
 @dataclass(frozen=True)
 class _Child:
+    """A child of a folder; its path begins with the folder's. A link is neither a folder nor a file."""
+
     path: str
     is_folder: bool
     is_file: bool
@@ -152,6 +165,7 @@ def _take(found: Selection, child: _Child) -> None:
 
 
 def _count(found: Selection, path: str) -> None:
+    """Notes a notebook, or counts a stub."""
     if path.endswith(NOTEBOOK):
         found.notebooks.append(path)
     found.stubs += path.endswith(STUB)
@@ -160,7 +174,7 @@ def _count(found: Selection, path: str) -> None:
 def _add_tracked(found: Selection, path: str) -> None:
     """Adds the Python files that git tracks below a path, except links, deleted files and those in virtual environments.
 
-    Links and files in virtual environments are counted. Raises git.GitError.
+    Links, and files in virtual environments or below links, are counted. Raises git.GitError if git can't list the files.
     """
     top = path if os.path.isdir(path) else os.path.dirname(path)
     # (a folder that the user names is looked at even if it is an environment)
@@ -194,11 +208,16 @@ def _kind(path: str) -> str:
 
 
 def _is_environment(folder: str) -> bool:
+    """Whether a folder is a virtual environment or holds code of others, by its name or by the file that marks one."""
     return os.path.basename(folder) in ENVIRONMENTS or os.path.isfile(os.path.join(folder, ENVIRONMENT_MARK))
 
 
 def _holds(folder: str, known: Dict[str, bool], test: Callable[[str], bool]) -> bool:
-    """Whether the test is true of a folder or of one above it. Answers are kept in `known`, and those in it are used."""
+    """Whether the test is true of a folder or of one above it in its path.
+
+    `known` gets the answer for each folder that is tested. An answer that it has already is taken without testing that folder
+    or those above it.
+    """
     if folder not in known:
         above = os.path.dirname(folder)
         known[folder] = test(folder) or (above != folder and _holds(above, known, test))

@@ -1,6 +1,8 @@
 """Finds the pattern of an entry: its literals in the source, its value, and the flags of its call.
 
-A report names the place of a pattern's first literal. `Source.site` returns the pattern there, as Python reads it.
+A report names the place of a pattern's first literal. `Source.site` returns the pattern there, as Python reads it. An offset
+counts code points from 0, in the text of the source without a byte order mark. A place has a line and a column, which count
+from 1; columns count code points.
 """
 from __future__ import annotations
 
@@ -36,7 +38,7 @@ class SourceError(Exception):
 
 @dataclass(frozen=True)
 class Literal:
-    """One string literal of a pattern: its text in the source, and the offsets where it begins and ends."""
+    """One string literal of a pattern: its text in the source, prefix and quotes included, and its two ends as offsets."""
 
     text: str
     start: int
@@ -45,7 +47,11 @@ class Literal:
 
 @dataclass(frozen=True)
 class Site:
-    """A pattern in a source. `flags` is None unless they are written only with names of `re`."""
+    """A pattern in a source: its literals in order, its value, and the flags of its call as a number.
+
+    `flags` is None unless they are written only with names of `re`; 0 if the call has none. `literals` is empty for a pattern
+    that isn't written as literals.
+    """
 
     literals: Tuple[Literal, ...]
     value: Text
@@ -67,7 +73,7 @@ class Source:
         self._is_parsed = False
 
     def offset(self, place: Place) -> int:
-        """Returns the offset in `text` of a place of a report."""
+        """Returns the offset in `text` of a place of a report; a line after the last one counts as the last."""
         return self.starts[min(place.line, len(self.starts)) - 1] + place.column - 1
 
     def place(self, offset: int) -> Place:
@@ -86,7 +92,11 @@ class Source:
         return self.text[self.starts[number - 1]:end].rstrip("\r\n")
 
     def literals(self, place: Place) -> Tuple[Literal, ...]:
-        """Returns the adjacent string literals that begin at the place, as the running Python reads them."""
+        """Returns the adjacent string literals that begin at the place, as the running Python reads them.
+
+        Comments and line ends between them don't matter. They end before an f-string. Returns none if no literal begins at the
+        place.
+        """
         start = self.offset(place)
         found: List[Literal] = []
         offsets = _Offsets(self, start)
@@ -106,7 +116,7 @@ class Source:
         return tuple(found)
 
     def _lines_from(self, start: int) -> Iterator[str]:
-        """Yields the lines from an offset on, for the tokenizer."""
+        """Yields the lines from an offset on, for the tokenizer; the first is what follows the offset, behind a `(`."""
         first = self.place(start)
         # (inside parentheses, line ends between the literals and indentation don't count)
         yield "(" + self.line(first.line)[first.column - 1:] + "\n"
@@ -114,7 +124,10 @@ class Source:
             yield self.line(number) + "\n"
 
     def site(self, place: Place, call: Optional[str]) -> Optional[Site]:
-        """Returns the pattern whose first literal is at the place, or None if there is none."""
+        """Returns the pattern whose first literal is at the place, or None if there is none.
+
+        `call` is the function of `re` that takes it; without one, the flags aren't known.
+        """
         literals = self.literals(place)
         if not literals:
             return None
@@ -139,7 +152,10 @@ class Source:
         return (self._calls or {}).get((place.line, len(line[: place.column - 1].encode("utf-8", "surrogatepass"))))
 
     def _flags(self, place: Place, call: Optional[str]) -> Optional[int]:
-        """The flags of the call at the place, if the running Python can parse the source; None if they aren't known."""
+        """The flags of the call whose pattern begins at the place; None if they aren't known.
+
+        They are known only if the running Python can parse the source.
+        """
         found = self.call(place)
         return None if found is None or call is None else found.flags(FLAGS_AT.get(call, 1))
 
@@ -171,10 +187,12 @@ class _Offsets:
     """Turns a position that the tokenizer gives for the lines of `_lines_from` into an offset in the source."""
 
     def __init__(self, source: Source, start: int) -> None:
+        """Takes the source, and the offset from which its lines are given to the tokenizer."""
         self.first = source.place(start)
         self.source = source
 
     def __call__(self, found: Tuple[int, int]) -> int:
+        """Returns the offset for a position: a line, from 1, and a column, from 0, which counts the added `(` on line 1."""
         line, column = found
         if line == 1:
             return self.source.offset(Place(self.first.line, self.first.column + column - 1))
@@ -182,7 +200,7 @@ class _Offsets:
 
 
 def inner_span(literal: Literal) -> Tuple[int, int]:
-    """Returns the offsets between a literal's quotes."""
+    """Returns the offsets where the part between a literal's quotes begins and ends."""
     found = LITERAL.match(literal.text)
     quote = len(found.group(2)) if found else 0
     return literal.start + (found.end() if found else 0), literal.end - quote
@@ -205,7 +223,11 @@ def code_offsets(site: Site) -> Optional[Tuple[int, ...]]:
 
 
 def _offsets_in(literal: Literal, first: int, last: int, raw: bool, value: Text) -> Iterator[int]:
-    """Yields the offset in the source of each character of a literal; `first` and `last` are the ends of its inside."""
+    """Yields the offset in the source of each character of a literal's value, or of each byte if `value` is bytes.
+
+    `first` and `last` are where the part between the quotes begins and ends in the literal's text. `raw` says that it has no
+    escapes, and `value` is the value of the whole pattern.
+    """
     form = RAW_CODE if raw else ESCAPE if isinstance(value, str) else BYTES_ESCAPE
     for piece in form.finditer(literal.text, first, last):
         at = literal.start + piece.start()
@@ -218,12 +240,18 @@ def _offsets_in(literal: Literal, first: int, last: int, raw: bool, value: Text)
 
 
 def _is_known(escape: str, value: Text) -> bool:
-    """Whether an escape means one character: those with u, U or N do so only in texts, and only if they are complete."""
+    """Whether an escape, with its backslash, means one character.
+
+    Those with u, U or N do so only if `value` is a `str` and if they are complete; others always do.
+    """
     return escape[1] not in "uUN" or (isinstance(value, str) and len(escape) > 2)
 
 
 def _flags_in(arguments: List[List[str]], at: int) -> Optional[int]:
-    """The flags that the tokens of a call's arguments give; None if they aren't known. The first argument is the pattern."""
+    """The flags that the tokens of a call's arguments give; None if they aren't known, 0 if there are none.
+
+    The first of the arguments is the pattern, without tokens. `at` is the position of the flags, if they have no name.
+    """
     if any(it[:1] in (["*"], ["**"]) or "lambda" in it for it in arguments):
         return None
     named = [it[2:] for it in arguments if it[:2] == ["flags", "="]]

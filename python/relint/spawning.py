@@ -17,35 +17,42 @@ READ_AT_A_TIME = 1 << 16
 
 
 def python_words() -> List[str]:
-    """Returns the words that start this Python for a script of the package, independent of the current folder."""
+    """Returns the words that start this Python for a script, which follows, isolated and without writing bytecode files."""
     return [sys.executable, "-I", "-B"]
 
 
 def python_environment() -> Dict[str, str]:
-    """Returns this process's environment without the variables of Python, which would change what such a script does."""
+    """Returns this process's environment without the variables whose names begin with PYTHON."""
     return {name: value for name, value in os.environ.items() if not name.startswith("PYTHON")}
 
 
 class Held:
-    """A context in which the signals that end a tool are held back, so that none comes before a new process is noted."""
+    """A context in which the signals in STOPPING are blocked, so that none ends the tool before a new process is noted."""
 
     def __enter__(self) -> Set[int]:
-        """Returns the signals that were held back before."""
+        """Blocks the signals, and returns those that were blocked before."""
         self._before: Set[int] = set(signal.pthread_sigmask(signal.SIG_BLOCK, STOPPING))
         return self._before
 
     def __exit__(self, *_: object) -> None:
-        """Lets the signals come that were held back in the meantime."""
+        """Blocks only what was blocked before; a signal that came inside the context is then delivered."""
         signal.pthread_sigmask(signal.SIG_SETMASK, self._before)
 
 
 def spawn(words: List[bytes], held: Set[int]) -> int:
-    """Starts a process with the input and outputs of this one, and returns its number. Raises OSError."""
+    """Starts a process with the input and outputs of this one, and returns its process id.
+
+    `words` are the path of the program and its arguments, and `held` are the signals that it is to block. Raises OSError if it
+    can't be started.
+    """
     return os.posix_spawn(words[0], words, os.environ, setsigmask=held, setsigdef=PASSED_OVER)
 
 
 def spawn_piped(words: List[bytes], environment: Dict[bytes, bytes], held: Set[int]) -> Tuple[int, int, int]:
-    """Starts a process with an empty input; returns its number and descriptors to read its two outputs. Raises OSError."""
+    """Starts a process with an empty input; returns its process id, and descriptors to read its output and its errors.
+
+    `words` and `held` are as for `spawn`. The caller closes the descriptors. Raises OSError if it can't be started.
+    """
     opened: List[int] = []
     try:
         out, out_end = _pipe(opened)
@@ -65,9 +72,10 @@ def spawn_piped(words: List[bytes], environment: Dict[bytes, bytes], held: Set[i
 
 
 def asked(words: List[bytes], most: int) -> Tuple[int, bytes, bytes]:
-    """Runs a command with an empty input; returns its status as in a shell, and the bytes of its two outputs.
+    """Runs a command with an empty input; returns its status, and the bytes of its output and its errors.
 
-    A command that writes more than `most` bytes is ended. Raises OSError.
+    The status is 128 + N if signal N ended it. A command that writes more than `most` bytes in all is killed. Raises OSError
+    if it can't be started.
     """
     with Held() as held:
         pid, out, err = spawn_piped(words, dict(os.environb), held)
@@ -86,7 +94,7 @@ def asked(words: List[bytes], most: int) -> Tuple[int, bytes, bytes]:
 
 
 def _read_both(out: int, err: int, most: int) -> List[bytes]:
-    """Reads two pipes to their ends, or until there are more than `most` bytes."""
+    """Reads two pipes to their ends, or until both together gave more than `most` bytes; returns the bytes of each."""
     import select
 
     poll = select.poll()
@@ -106,7 +114,10 @@ def _read_both(out: int, err: int, most: int) -> List[bytes]:
 
 
 def _pipe(opened: List[int]) -> Tuple[int, int]:
-    """Opens a pipe whose writing end isn't one of the descriptors 0 to 2; adds both ends to `opened`."""
+    """Opens a pipe whose writing end isn't one of the descriptors 0 to 2, and returns its reading and its writing end.
+
+    Adds both to `opened`. Raises OSError if it can't be opened.
+    """
     reading, writing = os.pipe()
     low: List[int] = []
     while writing <= 2:
@@ -119,7 +130,7 @@ def _pipe(opened: List[int]) -> Tuple[int, int]:
 
 
 def end(pids: Iterable[int]) -> None:
-    """Ends processes that this one started, and waits until they have ended."""
+    """Kills processes that this one started, by their ids, and waits until they have ended."""
     left = list(pids)
     for pid in left:
         try:

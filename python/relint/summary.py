@@ -9,7 +9,10 @@ from .used.classes import UNUSED
 
 
 def severities(entries: Sequence[Entry], max_degree: int) -> List[str]:
-    """Returns the counts by severity, the worst first: exponential, degrees that are findings, other degrees from 2 on."""
+    """Returns words for the counts by severity, the worst first: exponential, degrees above `max_degree`, lower ones from 2.
+
+    Counts of 0 are left out. If there is no finding, the first of the words is "no findings".
+    """
     degrees = [it.degree or 0 for it in entries if it.kind == "degree"]
     exponential = sum(it.kind == "exponential" for it in entries)
     above = sum(it > max_degree for it in degrees)
@@ -35,10 +38,10 @@ def not_judged(entries: Tuple[Entry, ...]) -> List[str]:
 
 
 def line(entries: Tuple[Entry, ...], max_degree: int, hidden: int = 0, unused: int = 0) -> str:
-    """Returns the whole line; `hidden` entries are those that a baseline accepts, which aren't among the entries.
+    """Returns the whole line, without a line end. `hidden` is how many findings a baseline accepts, which aren't in `entries`.
 
-    Findings of relint-wide are counted apart, and its other entries aren't counted. `unused` findings are those that no use
-    reaches; they are among the entries.
+    Findings of relint-wide are counted apart, and its other entries aren't counted. `unused` is how many findings aren't slow
+    in any use that the code makes of their patterns; they are in `entries`.
     """
     own = own_of(entries)
     beyond = sum(it.beyond is not None and it.is_finding(max_degree) for it in entries)

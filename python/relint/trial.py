@@ -2,6 +2,9 @@
 
 Reads a job as JSON on standard input. Writes a line `K LENGTH` before each match and a line `took SECONDS` after it; the last
 line is `end`, or `refused MESSAGE` or `memory`. A match that takes the job's seconds of processor time ends the process.
+
+A family has a text for each number k: the first head, then each pump k times, followed by the next head. In the job, bytes are
+written as Latin-1.
 """
 from __future__ import annotations
 
@@ -22,7 +25,12 @@ QUICK, STEEPEST = 0.02, 1.5
 
 
 def next_k(measured: Measured, seconds: float, exponential: bool) -> int:
-    """Returns the next k to try, given each k that was measured with its seconds."""
+    """Returns the next k to try, which is greater than the last k in `measured`: pairs of a rising k, from 1, and its seconds.
+
+    It is the larger of k + 1 and half as much again, or less: just past the k at which the last two times, if they are long
+    enough and grow, lead to the limit of `seconds`. The times are taken to grow as a power of k, or else exponentially, as
+    `exponential` says. `measured` mustn't be empty.
+    """
     k, took = measured[-1]
     most = max(k + 1, int(k * STEEPEST))
     if took < seconds * QUICK or len(measured) < 2:
@@ -34,18 +42,19 @@ def next_k(measured: Measured, seconds: float, exponential: bool) -> int:
     if exponential:
         wanted = k + math.log(seconds / took) * (k - earlier) / growth
     else:
-        wanted = k * math.exp(math.log(seconds / took) * math.log(k / earlier) / growth)
+        # (capped, since the power of an almost flat growth overflows; `most` is less than k * e)
+        wanted = k * math.exp(min(1.0, math.log(seconds / took) * math.log(k / earlier) / growth))
     return min(most, max(k + 1, math.ceil(wanted * 1.01)))
 
 
 def say(line: str) -> None:
-    """Writes a line without delay, since the process may be ended during the next match."""
+    """Writes a line to standard output without delay, since the process may be ended during the next match."""
     sys.stdout.write(line + "\n")
     sys.stdout.flush()
 
 
 def text_of(heads: List[Text], pumps: List[Text], k: int) -> Text:
-    """Returns text k of the family."""
+    """Returns text k of the family with these heads and pumps."""
     joined: Any = heads[0]
     for pump, head in zip(pumps, heads[1:]):
         joined = joined + pump * k + head
@@ -54,14 +63,20 @@ def text_of(heads: List[Text], pumps: List[Text], k: int) -> Text:
 
 
 def longest_k(heads: List[Text], pumps: List[Text], longest: int) -> int:
-    """Returns the greatest k whose text has at most `longest` characters; 0 if text 1 has more."""
+    """Returns the greatest k whose text has at most `longest` characters or bytes; 0 if text 1 has more.
+
+    Returns 1 if the texts don't grow, however long they are.
+    """
     left = longest - sum(len(it) for it in heads)
     grows = sum(len(it) for it in pumps)
     return max(left, 0) // grows if grows else 1
 
 
 def timed(match: Callable[[Any], object], text: Text, seconds: float) -> float:
-    """Matches the text, and returns the processor time that it took. SIGPROF ends the process if that reaches the limit."""
+    """Calls `match` with the text, and returns the seconds of processor time that it took.
+
+    SIGPROF ends the process if they reach `seconds`.
+    """
     signal.setitimer(signal.ITIMER_PROF, seconds)
     began = time.process_time()
     match(text)
@@ -71,9 +86,10 @@ def timed(match: Callable[[Any], object], text: Text, seconds: float) -> float:
 
 
 def grow(job: Dict[str, Any], took_by: Callable[[Text], float], tell: Callable[[str], object]) -> None:
-    """Tries greater and greater k until a match takes too long or the longest text is reached.
+    """Tries greater and greater k, from 1, until a match takes the job's seconds or the longest text is reached.
 
-    `took_by` matches a text and returns its seconds; `tell` writes a line.
+    `took_by` matches a text and returns its seconds; `tell` writes a line. The last line is "end"; it is the only one if text
+    1 is too long.
     """
     heads, pumps = texts_of(job)
     measured: Measured = []
@@ -92,7 +108,10 @@ def grow(job: Dict[str, Any], took_by: Callable[[Text], float], tell: Callable[[
 
 
 def limit(memory: int, seconds: float) -> None:
-    """Limits the memory of the process, and the processor time of all matches together."""
+    """Limits the address space of the process to `memory` bytes, and its processor time to 40 times `seconds` and 60 s more.
+
+    `seconds` is the limit of one match. No core file is written.
+    """
     resource.setrlimit(resource.RLIMIT_AS, (memory, memory))
     resource.setrlimit(resource.RLIMIT_CORE, (0, 0))
     most = math.ceil(seconds * 40) + 60
@@ -100,7 +119,7 @@ def limit(memory: int, seconds: float) -> None:
 
 
 def decoded(text: str, job: Dict[str, Any]) -> Text:
-    """Returns a text of the job, as bytes if its pattern is bytes."""
+    """Returns a text of the job, encoded as Latin-1 if its pattern is bytes."""
     return text.encode("latin-1") if job["bytes"] else text
 
 
@@ -110,7 +129,11 @@ def texts_of(job: Dict[str, Any]) -> Tuple[List[Text], List[Text]]:
 
 
 def main() -> None:
-    """Reads the job from standard input, and does it."""
+    """Reads the job from standard input, and writes the lines of `grow`, or `refused MESSAGE` or `memory` as the last line.
+
+    `refused` means that `re` doesn't take the pattern or the text, and `memory` that the memory is used up. The flag DEBUG is
+    left out.
+    """
     job = json.loads(sys.stdin.read())
     limit(job["memory"], job["seconds"])
     try:

@@ -1,7 +1,8 @@
 """Lists the files that `relint check` would judge, in its order and by its rules.
 
 A folder's children come sorted by the bytes of their names. A child file is listed if its name ends in `.py`. Symbolic links
-below a folder are skipped, and so is a path that was met before.
+below a folder are skipped, and so is a path that was met before. Each named path is at level 0, and its children are at level
+1.
 """
 from __future__ import annotations
 
@@ -10,7 +11,7 @@ import stat
 
 TYPE_CHECKING = False
 if TYPE_CHECKING:  # (importing typing takes as long as listing thousands of files)
-    from typing import Iterator, List, Optional, Sequence, Set, Tuple
+    from typing import Iterator, List, Sequence, Set, Tuple
 
 DEEPEST = 64
 # The level of a path that isn't a folder.
@@ -19,47 +20,24 @@ NO_FOLDER = -1
 PATHS_AT_A_TIME, FOLDERS_AT_A_TIME = 64, 16
 
 
-class Passed:
-    """Notes what was skipped where Python files may be: counts of files and links, and the folders that lie too deep.
-
-    With `any_name`, a folder is listed even if a name in it isn't UTF-8. relint can't list such a folder at all.
-    """
-
-    __slots__ = ("links", "environments", "deep", "any_name")
-
-    def __init__(self, any_name: bool = False) -> None:
-        self.links = self.environments = 0
-        self.deep: List[bytes] = []
-        self.any_name = any_name
-
-    def words(self) -> str:
-        """Returns the counts in words; "" if nothing was skipped."""
-        counts = (
-            (self.environments, "file{} of virtual environments"), (self.links, "link{}"),
-            (len(self.deep), f"folder{{}} below the {DEEPEST}th level"),
-        )
-        parts = [f"{count:,} {name.format('' if count == 1 else 's')}" for count, name in counts if count]
-        return ", ".join(parts) + " not looked at" if parts else ""
-
-
 class NotListed(Exception):
     """Raised if no list of files gives the same entries as the walk that `relint check` does itself."""
 
 
 class TooDeep(NotListed):
-    """Raised for a folder more than 64 levels below its named path: relint doesn't enter it, but would if it were named."""
+    """Raised for a folder more than DEEPEST levels below its named path, which relint enters only if it is named itself."""
 
 
 class NamedAgain(NotListed):
     """Raised if a path that is neither a file nor a folder is named twice: relint gives it an entry each time."""
 
 
-def walk(paths: Sequence[bytes], once: bool = False, passed: Optional[Passed] = None) -> Iterator[List[bytes]]:
+def walk(paths: Sequence[bytes], once: bool = False) -> Iterator[List[bytes]]:
     """Yields lists of paths to name in place of `paths`, in the order of the walk; a list may be empty.
 
-    Checking the yielded paths in order gives the same entries as checking the original paths. What is skipped is noted in
-    `passed`. If `passed` is None, raises TooDeep at a folder that lies too deep. With `once`, raises NamedAgain at a path that
-    has to be yielded twice.
+    Checking the yielded paths in order gives the same entries as checking the original paths. A path that can't be listed or
+    read is yielded itself. Raises TooDeep at a folder that lies too deep and, with `once`, NamedAgain at a path that has to be
+    yielded twice.
     """
     met: Set[bytes] = set()
     repeated: Set[bytes] = set()
@@ -69,7 +47,7 @@ def walk(paths: Sequence[bytes], once: bool = False, passed: Optional[Passed] = 
         if stat.S_ISDIR(mode):
             yield found
             found = []
-            yield from _walk_folder(path, met, passed)
+            yield from _walk_folder(path, met)
         elif not stat.S_ISREG(mode):
             if once and path in repeated:
                 raise NamedAgain(os.fsdecode(path))
@@ -84,12 +62,6 @@ def walk(paths: Sequence[bytes], once: bool = False, passed: Optional[Passed] = 
     yield found
 
 
-def files_below(paths: Sequence[str], passed: Passed) -> List[str]:
-    """Returns the files that relint reads below the paths, in its order, and the paths that it can't list or read."""
-    named = [os.fsencode(it) for it in paths]
-    return [os.fsdecode(it) for part in walk(named, passed=passed) for it in part]
-
-
 def _mode(path: bytes) -> int:
     """The file mode of a path, or 0 if it can't be looked up. Links aren't followed."""
     try:
@@ -98,11 +70,11 @@ def _mode(path: bytes) -> int:
         return 0
 
 
-def _walk_folder(top: bytes, met: Set[bytes], passed: Optional[Passed]) -> Iterator[List[bytes]]:
-    """Yields the files to name in place of a folder, some at a time, without those in `met`, to which all are added.
+def _walk_folder(top: bytes, met: Set[bytes]) -> Iterator[List[bytes]]:
+    """Yields the files to name in place of a folder, some at a time.
 
-    A folder that can't be listed is yielded itself. A folder below level DEEPEST is noted in `passed`; without one, raises
-    TooDeep.
+    Paths in `met` are skipped, and all paths that are met are added to it. A folder that can't be listed is yielded itself.
+    Raises TooDeep at a folder below level DEEPEST.
     """
     found: List[bytes] = []
     entered = 0
@@ -113,29 +85,25 @@ def _walk_folder(top: bytes, met: Set[bytes], passed: Optional[Passed]) -> Itera
         if level == NO_FOLDER:
             found.append(path)
         elif path not in met:
-            met.add(path)
-            if level <= DEEPEST:
-                entered += 1
-                _enter(path, level, met, found, left, passed)
-            elif passed is None:
+            if level > DEEPEST:
                 raise TooDeep(os.fsdecode(path))
-            else:
-                passed.deep.append(path)
+            met.add(path)
+            entered += 1
+            _enter(path, level, met, found, left)
         if len(found) >= PATHS_AT_A_TIME or entered >= FOLDERS_AT_A_TIME:
             yield found
             found, entered = [], 0
     yield found
 
 
-def _enter(
-    folder: bytes, level: int, met: Set[bytes], found: List[bytes], left: List[Tuple[bytes, int]], passed: Optional[Passed]
-) -> None:
-    """Adds a folder's sources to `found`, or all its children to the stack `left` if folders are among them.
+def _enter(folder: bytes, level: int, met: Set[bytes], found: List[bytes], left: List[Tuple[bytes, int]]) -> None:
+    """Adds a folder's sources to `found` or, if folders are among its children, its sources and folders to the stack `left`.
 
-    A folder that can't be listed is added to `found` itself.
+    Sources in `met` are skipped, and the others are added to it. A folder that can't be listed is added to `found` itself.
+    `level` is the folder's.
     """
     try:
-        sources, folders = _children(folder, passed)
+        sources, folders = _children(folder)
     except (OSError, UnicodeDecodeError):
         # (relint can't list it either, and gives it an entry `unreadable`)
         found.append(folder)
@@ -150,8 +118,11 @@ def _enter(
     left += children
 
 
-def _children(folder: bytes, passed: Optional[Passed]) -> Tuple[List[bytes], List[bytes]]:
-    """The sources and the folders in a folder. Raises OSError or UnicodeDecodeError if relint can't list it."""
+def _children(folder: bytes) -> Tuple[List[bytes], List[bytes]]:
+    """The paths of the sources and of the folders in a folder, in no order; links are skipped.
+
+    Raises OSError or UnicodeDecodeError if relint can't list the folder.
+    """
     names: List[bytes] = []
     sources: List[bytes] = []
     folders: List[bytes] = []
@@ -163,10 +134,7 @@ def _children(folder: bytes, passed: Optional[Passed]) -> Tuple[List[bytes], Lis
                 folders.append(entry.path)
             elif name[-3:] == b".py" and entry.is_file(follow_symlinks=False):
                 sources.append(entry.path)
-            elif passed is not None and entry.is_symlink() and (name[-3:] == b".py" or entry.is_dir()):
-                passed.links += 1
-    if passed is None or not passed.any_name:
-        b"\0".join(names).decode("utf-8")
+    b"\0".join(names).decode("utf-8")
     if names:
         # (relint looks up each name, which fails if the folder can't be searched or a path is too long)
         os.lstat(os.path.join(folder, max(names, key=len)))

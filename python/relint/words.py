@@ -18,10 +18,13 @@ ACTIONS: Dict[str, Tuple[str, str]] = {
 
 
 class Option:
-    """An option of every action. It takes one of some words, or a number in a range, or else a path."""
+    """An option of relint's command line. Its value is one of the words `choices`, or a number in a range, or else a path."""
 
     def __init__(self, about: str, choices: Tuple[str, ...] = (), numbers: Optional[Tuple[int, int]] = None) -> None:
-        """Takes words for what the option does, and the words or the range of its values."""
+        """Takes words for what the option does, and the words, or the least and the greatest number, that it takes.
+
+        Without either, the option takes a path.
+        """
         self.about, self.choices, self.numbers = about, choices, numbers
 
     def is_path(self) -> bool:
@@ -35,7 +38,7 @@ class Option:
         return f"one of {', '.join(self.choices)}" if self.choices else "a path"
 
     def takes(self, value: str) -> bool:
-        """Returns whether the option takes this value."""
+        """Returns whether the option takes this value. A number has at most LONGEST_NUMBER digits, and a path isn't empty."""
         if self.numbers:
             is_number = value.isascii() and value.isdigit() and len(value) <= LONGEST_NUMBER
             return is_number and self.numbers[0] <= int(value) <= self.numbers[1]
@@ -55,13 +58,17 @@ OPTIONS: Dict[str, Option] = {
 
 
 def _near(word: str, known: Sequence[str]) -> str:
+    """A hint at the known word that is nearest to a word, to be added to a message; "" if none is near."""
     from .command_line import nearest
 
     return nearest(word, known)
 
 
 def _of_value(name: str, value: Optional[str], is_apart: bool) -> str:
-    """Why a value is refused, or "". A value that is a word of its own mustn't begin like an option."""
+    """Why the value of the option `name` is refused, or "" if it isn't. None says that there is no value.
+
+    `is_apart` says that the value is a word of its own; then it mustn't begin with `-`, unless it is `-`.
+    """
     option = OPTIONS[name]
     if value is None:
         return f"{name} wants {option.wanted()}"
@@ -71,7 +78,7 @@ def _of_value(name: str, value: Optional[str], is_apart: bool) -> str:
 
 
 def refused(words: Sequence[str], has_paths: bool = False) -> str:
-    """Returns which of the words after `relint check` is refused, and why; "" if none is.
+    """Returns which of the words after `relint check` is refused, and why; "" if none is. The first one counts.
 
     With `has_paths`, paths are given elsewhere, so the words need none.
     """

@@ -26,11 +26,15 @@ class WriteError(Exception):
 
 
 def is_seen(letter: str) -> bool:
-    """Returns whether a character can be seen. Control codes, marks of direction, line ends and lone surrogates can't."""
+    """Returns whether Python counts the character as printable and it isn't in UNSEEN. Of white space, only " " is seen.
+
+    Control codes, line ends, marks of direction and lone surrogates aren't printable.
+    """
     return letter.isprintable() and letter not in UNSEEN
 
 
 def _escape(letter: str) -> str:
+    """A character that can't be seen as an escape of Python: \\t, \\n, \\r, \\xNN, \\uNNNN or \\UNNNNNNNN."""
     code = ord(letter)
     if code < 0x100:
         return letter.encode("unicode_escape").decode("ascii")
@@ -38,38 +42,50 @@ def _escape(letter: str) -> str:
 
 
 def escaped(text: str, but: str = "") -> str:
-    """Returns a text in which characters that can't be seen, except those in `but`, are written as escapes."""
+    """Returns a text in which the characters that `is_seen` denies, except those in `but`, are written as escapes of Python.
+
+    A backslash stays as it is.
+    """
     if text.isascii() and text.isprintable():
         return text
     return "".join(it if is_seen(it) or it in but else _escape(it) for it in text)
 
 
 def visible(text: str) -> str:
-    """Returns a text in which everything that a terminal or a build server could take for a command is an escape."""
+    """Returns a text in which what a terminal or a build server could take for a command anywhere in a line is an escape.
+
+    These are the characters that `is_seen` denies, and the second `#` of commands such as `##[error]`.
+    """
     shown = escaped(text)
     return SERVER_COMMAND.sub(r"#\\x23", shown) if "##" in shown else shown
 
 
 def line(text: str) -> str:
-    """Returns a text to be written as a line of its own; like `visible`, and it never begins with `::`, a command too."""
+    """Returns a text to be written as a line of its own: as in `visible`, and with `\\x3a:` for `::` at its start.
+
+    Blanks before the `::` don't matter. A line that begins with `::` is a command of a build server too.
+    """
     shown = visible(text)
     start = len(shown) - len(shown.lstrip())
     return shown[:start] + "\\x3a" + shown[start + 1:] if shown.startswith("::", start) else shown
 
 
 def _data(text: str) -> str:
-    """A text as the message of a workflow command: characters that would end it are coded, others as in `visible`."""
+    """A text as the message of a workflow command: `%` and line ends become %25, %0D and %0A, the rest is as in `visible`."""
     coded = {"%": "%25", "\r": "%0D", "\n": "%0A"}
     return "".join(coded.get(it) or visible(it) for it in re.split("([%\r\n])", text))
 
 
 def _property(text: str) -> str:
-    """A text as a property of a workflow command, which a colon or a comma would end too."""
+    """A text as a property of a workflow command: like `_data`, with colons and commas coded as %3A and %2C too."""
     return _data(text).replace(":", "%3A").replace(",", "%2C")
 
 
 def workflow_command(level: str, properties: List[Tuple[str, str]], message: str) -> str:
-    """Returns a line that makes a build server show a message; `level` is error, warning or notice."""
+    """Returns a line, without its end, that makes a build server show a message; `level` is error, warning or notice.
+
+    `properties` are names, which must be safe, and values, such as the file and the line.
+    """
     parts = ",".join(f"{name}={_property(value)}" for name, value in properties)
     return f"::{level} {parts}::{_data(message)}"
 
@@ -94,6 +110,10 @@ def replace_file(path: str, data: bytes, was: Optional[bytes] = None, within: st
 
 
 def _replace(folder: int, name: str, data: bytes, was: Optional[bytes]) -> List[str]:
+    """Replaces the content of the file `name` in the folder with this descriptor, or creates the file; see `replace_file`.
+
+    Raises OSError and WriteError, and then leaves no file beside it.
+    """
     old = _status(folder, name)
     beside = f".relint-{os.getpid()}-{os.urandom(6).hex()}"
     file = os.open(beside, OWN_FILE, 0o666 if old is None else 0o600, dir_fd=folder)
@@ -114,7 +134,10 @@ def _replace(folder: int, name: str, data: bytes, was: Optional[bytes]) -> List[
 
 
 def _status(folder: int, name: str) -> Optional[os.stat_result]:
-    """The status of a file, or None if it isn't there. Raises WriteError if it isn't a regular file."""
+    """The status of a file in the folder with this descriptor, or None if it isn't there.
+
+    Raises WriteError if it is a link or not a regular file, and OSError if it can't be looked up.
+    """
     try:
         found = os.stat(name, dir_fd=folder, follow_symlinks=False)
     except FileNotFoundError:
@@ -125,7 +148,10 @@ def _status(folder: int, name: str) -> Optional[os.stat_result]:
 
 
 def _keep(file: int, old: os.stat_result) -> List[str]:
-    """Gives a new file the owner and the mode of the old one; returns words for each thing that it can't be given."""
+    """Gives the new file, an open descriptor, the owner and the mode of the old one.
+
+    Returns words for each thing that can't be kept: the owner, and other names (hard links) of the old file.
+    """
     lost = []
     new = os.fstat(file)
     if (new.st_uid, new.st_gid) != (old.st_uid, old.st_gid):
@@ -142,12 +168,14 @@ def _keep(file: int, old: os.stat_result) -> List[str]:
 
 
 def _write(file: int, data: bytes) -> None:
+    """Writes all the data to the file with this descriptor. Raises OSError if that fails."""
     left = memoryview(data)
     while left:
         left = left[os.write(file, left):]
 
 
 def _compare(folder: int, name: str, was: bytes) -> None:
+    """Raises WriteError unless the file `name` in the folder with this descriptor can be read, and has the content `was`."""
     try:
         same = read_in(folder, name, len(was)) == was
     except (OSError, OpenError):

@@ -243,6 +243,9 @@ class OneTrial(unittest.TestCase):
         self.assertEqual(trial.next_k([(100, 1 / 128), (200, 1 / 32)], 1.0, False), 300)
         self.assertEqual(trial.next_k([(100, 0.2), (200, 0.8)], 1.0, False), 226)
         self.assertEqual(trial.next_k([(100, 0.3), (110, 0.2)], 1.0, False), 165)
+        # (the power of an almost flat growth is larger than any float)
+        self.assertEqual(trial.next_k([(10, 0.05), (15, 0.0500001)], 1.0, False), 22)
+        self.assertEqual(trial.next_k([(10, 0.05), (15, 0.0500001)], 1.0, True), 22)
 
     def test_growth_by_a_clock_that_is_given(self) -> None:
         """A text of n characters takes n^2 microseconds: the limit of a second is passed at 1,000 characters."""

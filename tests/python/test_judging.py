@@ -1,6 +1,8 @@
 """Runs of relint that end in time: what takes long is judged call by call, and what is left is named."""
 from __future__ import annotations
 
+import contextlib
+import io
 import json
 import os
 import re
@@ -9,7 +11,7 @@ from pathlib import Path
 from typing import Dict, List, Optional, Sequence
 from unittest import mock
 
-from relint import judging, page, program, show
+from relint import gather, judging, page, program, show
 from relint.judging import Judge, Limits
 from relint.reports import Entry
 from show_support import folder, no_program, tool
@@ -81,8 +83,8 @@ class Runs(unittest.TestCase):
         self.runs, self.real = 0, program.run
         with folder(files), mock.patch.object(program, "run", self.run_or_end):
             # (what takes too long is told by its word, so no real run ends by these limits)
-            judge = Judge([], None, Limits(999_999, total))
-            return judging.joined(list(judge.answers(sorted(files), sorted(files))))
+            judge = Judge([], Limits(999_999, total))
+            return judging.joined(list(judge.answers(sorted(files))))
 
     def wanted(self, text: str) -> List[Entry]:
         with folder({"a.py": text}):
@@ -134,6 +136,14 @@ class Runs(unittest.TestCase):
                 found = (here / "found").read_text(encoding="utf-8")
                 self.assertIn(left, found)
                 self.assertIn("exponential", found)
+
+    def test_a_run_without_a_report_ends_a_tool_in_one_line(self) -> None:
+        def work() -> int:
+            raise judging.JudgeError("relint ended with status 2", 2)
+
+        with contextlib.redirect_stderr(io.StringIO()) as said:
+            self.assertEqual(gather.ended("relint-confirm", work), 2)
+        self.assertEqual(said.getvalue(), "relint-confirm: relint ended with status 2\n")
 
     def test_findings_that_are_not_shown_in_full(self) -> None:
         text = "import re\n" + "re.match('(a|a)*b', s)\n" * 5

@@ -5,9 +5,10 @@ import unittest
 from typing import List
 
 from mend_support import with_relint
-from relint.mend import asking, rules, tree, write
+from relint.mend import asking, tree, write
 from relint.mend.rules import LINE_ANCHOR, RULES, Rule
 from relint.mend.samples import Sampler
+from relint.mend.search import positions, put
 from relint.mend.trial import tried
 
 # The examples that match other texts than their patterns: these rules lean on what stands around.
@@ -18,7 +19,7 @@ def proposed(rule: Rule, pattern: str) -> List[tree.Node]:
     found = tree.read(pattern, 0)
     if rule is LINE_ANCHOR:
         return list(rule.rewrite(found.tree, found.alphabet))
-    return list(rules.places(found.tree, lambda node: rule.rewrite(node, found.alphabet)))
+    return [put(found.tree, path, new) for path, node in positions(found.tree) for new in rule.rewrite(node, found.alphabet)]
 
 
 class Rules(unittest.TestCase):

@@ -14,7 +14,7 @@ import unittest
 from typing import Any, List, NamedTuple, Optional, Tuple
 
 from relint.mend import tree
-from relint.mend.spans import Answer, Question, differ, found
+from relint.mend.spans import Answer, Question, differ, matched_slots
 
 # Two patterns, the question, and whether re finds the same with both on every text.
 KNOWN = [
@@ -163,7 +163,7 @@ class Spans(unittest.TestCase):
             for text in every_text(3) + ['"a\\\\"', "abx\nx"]:
                 pair = tree.read_both([left, right], 0)
                 for kind in ("prefix", "whole", "search"):
-                    for pattern, places in zip((left, right), found(pair, text, 0, kind)):
+                    for pattern, places in zip((left, right), matched_slots(pair, text, 0, kind)):
                         wanted = seen(re.compile(pattern), text, 0, Question(kind))
                         if wanted is None or places is None:
                             self.assertEqual(places, wanted)

@@ -6,9 +6,11 @@ import shutil
 import subprocess
 import sys
 import unittest
+from dataclasses import replace
 from pathlib import Path
 
 from relint import causes, explain, rules
+from relint.beyond import ELSEWHERE, HANG, Beyond
 from relint.explain import NotExplained
 from relint.reports import Entry, Place
 from show_support import TOP, folder
@@ -26,6 +28,13 @@ class Codes(unittest.TestCase):
         self.assertEqual(rules.code(Entry("a.py", "exponential", Place(1, 1), "match")), "RLT100")
         for value, code in ((1, "RLT101"), (2, "RLT102"), (3, "RLT103"), (98, "RLT198"), (99, "RLT199"), (4000, "RLT199")):
             self.assertEqual(rules.code(degree(value)), code)
+
+    def test_classes_of_relint_wide(self) -> None:
+        for kind, first in ((ELSEWHERE, 300), (HANG, 350)):
+            beyond = Beyond(kind, "a", 0, "match", "re.match", (1, 2))
+            self.assertEqual(rules.number(replace(degree(3), kind="exponential", degree=None, beyond=beyond)), first)
+            for value, above in ((0, 1), (1, 1), (2, 2), (49, 49), (50, 49)):
+                self.assertEqual(rules.number(replace(degree(value), beyond=beyond)), first + above)
 
     def test_what_has_no_class(self) -> None:
         for entry, code in (

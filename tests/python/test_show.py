@@ -215,14 +215,14 @@ class Trying(unittest.TestCase):
 
 @unittest.skipIf(NO_PROGRAM, NO_PROGRAM)
 class Figures(unittest.TestCase):
-    """The figures that are told are those of relint cost."""
+    """The figures that are shown are those of relint cost."""
 
-    def test_told_point(self) -> None:
+    def test_shown_point(self) -> None:
         # (a|a)* on n times "a" and one more character costs 6 * 2^n - 2 steps in fullmatch, as docs/VERDICTS.md shows for 20
         family = Family(("", "b"), ("a",))
         found = growth.measure(growth.Meter(), "(a|a)*", "fullmatch", family, Verdict("exponential"))
         assert found is not None
-        self.assertEqual((found.told.length, found.told.steps), (29, 6 * 2**28 - 2))
+        self.assertEqual((found.shown.length, found.shown.steps), (29, 6 * 2**28 - 2))
         self.assertAlmostEqual(found.rate or 0, 2, places=3)
         for point in found.points:
             self.assertEqual(point.steps, 6 * 2**point.k - 2)

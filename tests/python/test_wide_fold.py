@@ -6,9 +6,9 @@ import unittest
 from typing import Dict, List, Tuple, Union
 
 from relint.wide.find import Finder, Found
-from relint.wide.fold import Folder
+from relint.wide.fold import ConstantFolder
 from relint.wide.modules import ModuleError, Modules, parsed
-from relint.wide.takers import own_takers
+from relint.wide.takers import own_rows, takers_of
 
 Text = Union[str, bytes]
 
@@ -25,7 +25,7 @@ def found_in(source: str, **others: str) -> List[Found]:
     modules = Modules(files, read)
     module = parsed("pkg/main.py", files["pkg/main.py"])
     modules.keep(module.path, module)
-    return Finder(Folder(modules), own_takers()).find(module)
+    return Finder(ConstantFolder(modules), takers_of(own_rows())).find(module)
 
 
 def only(source: str, **others: str) -> Found:
@@ -146,6 +146,15 @@ UNKNOWN: Tuple[Tuple[str, str], ...] = (
     ("P = 'a'\nF = re.I\nF |= re.M\nre.compile(P, F)", "flags: bound more than once"),
     ("P = 'a' * 200000\nre.compile(P)", "too large"),
     ("A = 'aaaa'\n" + "".join(f"{b} = {a} * 9\n" for a, b in zip("ABCDEFG", "BCDEFGH")) + "re.compile(H)", "too large"),
+    ("re.compile(''.join(range(18446744073709551615)))", "too large"),
+    ("re.compile(''.join(range(0, -18446744073709551615, -1)))", "too large"),
+    ("re.compile(''.join(sorted(['a', b'b'])))", "expression that fails"),
+    ("W = sorted(['a', b'b'])\nre.compile(W[0])", "expression that fails"),
+    ("re.compile('' * 18446744073709551616)", "expression that fails"),
+    ("re.compile('a' * -18446744073709551616)", "expression that fails"),
+    ("re.compile(''.join([] * 18446744073709551616))", "expression that fails"),
+    ("re.compile('{²}'.format('a'))", "expression that fails"),
+    ("P = 'a'\nre.compile(P, '' * 18446744073709551616)", "flags: expression that fails"),
     ("P = 3\nre.compile(P)", "not a text"),
     ("re.compile()", "no pattern argument"),
     ("re.compile(*x)", "no pattern argument"),
@@ -238,6 +247,9 @@ NOT_EACH: Tuple[Tuple[str, str], ...] = (
     ("exec('w = 1')\nfor w in ('a', 'b'):\n    re.compile(w)", "loop"),
     ("def enumerate(x):\n    return ()\nfor n, w in enumerate(('a', 'b')):\n    re.compile(w)", "loop"),
     ("for w in range(9 ** 9):\n    re.compile(str(w))", "loop"),
+    ("for w in range(18446744073709551615):\n    re.compile(str(w))", "loop"),
+    ("for w in sorted(['a', b'b']):\n    re.compile(w)", "loop"),
+    ("for w in ('a', 'b'):\n    re.compile(w * -18446744073709551616)", "expression that fails"),
     ("for w in 'a' * 65:\n    re.compile(w)", "loop over more than 64 values"),
     ("for v in 'abcdefghi':\n    for w in 'abcdefghi':\n        re.compile(v + w)", "loop over more than 64 values"),
     ("for w in ('a' * 60000, 'b'):\n    re.compile(w * 2)", "too large"),
@@ -277,7 +289,7 @@ class Known(unittest.TestCase):
 
     def test_names_are_told_with_their_lines(self) -> None:
         found = only("A = 'a'\nB = A + 'b'\nre.compile(B)")
-        self.assertEqual([(it.name, it.path, it.line) for it in found.held],
+        self.assertEqual([(it.name, it.path, it.line) for it in found.holders],
                          [("B", "pkg/main.py", 3), ("A", "pkg/main.py", 2)])
 
     def test_place_is_that_of_the_first_literal(self) -> None:
@@ -303,6 +315,14 @@ class Known(unittest.TestCase):
 
 class Unknown(unittest.TestCase):
     """What isn't folded, as it may have another value."""
+
+    def test_current_folder_may_be_a_package(self) -> None:
+        paths = ("__init__.py", "a.py", "below/__init__.py", "below/b.py")
+        modules = Modules(paths, lambda path: "")
+        self.assertEqual([modules.name_of(it) for it in paths], ["", "a", "below", "below.b"])
+        self.assertEqual(modules.find("a", "below/b.py"), "a.py")
+        self.assertEqual(modules.find("..a", "below/b.py"), "a.py")
+        self.assertEqual(Modules(["/__init__.py", "/a.py"], lambda path: "").name_of("/a.py"), "a")
 
     def test_reasons(self) -> None:
         for source, why in UNKNOWN:
@@ -366,7 +386,7 @@ class Loops(unittest.TestCase):
         first, second = (it for it in found_in("import re\nW = ('a', 'b')\nfor w in W:\n    re.compile(w)\n"))
         self.assertEqual(first.notes, ("item 1 of 2 of the loop in line 3",))
         self.assertEqual(second.notes, ("item 2 of 2 of the loop in line 3",))
-        self.assertEqual([(it.name, it.line) for it in second.held], [("w", 3), ("W", 2)])
+        self.assertEqual([(it.name, it.line) for it in second.holders], [("w", 3), ("W", 2)])
 
     def test_pattern_and_flags_of_one_item(self) -> None:
         found = found_in("import re\nfor p, f in (('a', re.I), ('b', re.M)):\n    re.compile(p, f)\n")
@@ -425,7 +445,7 @@ class Imports(unittest.TestCase):
                        "import pkg.consts\nre.compile(pkg.consts.P)", "from .consts import *\nre.compile(P)"):
             with self.subTest(source=source):
                 found = only(source, consts="P = 'a+'\n")
-                self.assertEqual((found.pattern, found.held[-1].path, found.held[-1].line), ("a+", "pkg/consts.py", 1))
+                self.assertEqual((found.pattern, found.holders[-1].path, found.holders[-1].line), ("a+", "pkg/consts.py", 1))
 
     def test_through_another_file(self) -> None:
         found = only("from .b import P\nre.compile(P)", b="from .c import P\n", c="P = 'a'\n")

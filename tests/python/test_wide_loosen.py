@@ -12,7 +12,7 @@ from counting import Counted
 from relint.confirm import CONFIRMED, Limits, Outcome, Trials
 from relint.reports import Entry, Family, Text
 from relint.wide.judge import Question, judged, source_line
-from relint.wide.loosen import Form, forms, reads
+from relint.wide.loosen import Form, forms, taken_apart, written
 from relint.wide.tried import chosen, hangs, power_of, seen_class
 
 TEXTBOOK = (
@@ -34,6 +34,12 @@ FAMILY = Family(("", "!"), ("a",))
 def rules_of(pattern: str, is_undecided: bool = False, flags: int = 0) -> List[Tuple[str, Tuple[str, ...]]]:
     """The forms of a pattern as texts, with their rules."""
     return [(str(it.pattern), it.rules) for it in forms(pattern, flags, is_undecided)]
+
+
+def reads(pattern: str, flags: int) -> str:
+    """A pattern taken apart and written again."""
+    read = taken_apart(pattern, flags)
+    return (f"(?{read.front})" if read.front else "") + written(read.branches)
 
 
 class Forms(unittest.TestCase):

@@ -13,7 +13,7 @@ from relint.reports import Entry, read_report
 from relint.wide import run
 from relint.wide.crew import Crew
 from relint.wide.notebook import NotebookError, read_notebook
-from relint.wide.takers import TakersError, own_takers, right_rows, taker_of
+from relint.wide.takers import TakersError, own_rows, right_rows, taker_of, takers_of
 
 BAD = r"^(\w+\s?)*$"
 # For each row of the table of takers, by the row's first name: a source that gives the pattern to it.
@@ -85,7 +85,7 @@ class Runs(unittest.TestCase):
                 entry = found[f"./{number}.py"]
                 assert entry.beyond is not None
                 self.assertEqual((entry.kind, entry.beyond.pattern), ("exponential", BAD))
-        self.assertEqual(set(TAKEN), {it.name for it in own_takers()})
+        self.assertEqual(set(TAKEN), {it.name for it in takers_of(own_rows())})
 
     def test_what_takes_none(self) -> None:
         result = look({f"{number}.py": source.format(repr(BAD)) for number, source in enumerate(NOT_TAKEN)})
@@ -176,7 +176,7 @@ class Runs(unittest.TestCase):
         assert entry.beyond is not None and entry.place is not None
         self.assertEqual((entry.path, entry.place.line, entry.place.column, entry.beyond.cell), ("./n.ipynb:cell 4", 3, 16, 4))
         self.assertEqual(result.counts.unread, [("./n.ipynb:cell 3", "this Python can't parse it")])
-        self.assertIn("line 3", entry.beyond.held_words(entry.path))
+        self.assertIn("line 3", entry.beyond.holder_words(entry.path))
 
     def test_command_tells_the_kinds_apart(self) -> None:
         source = f"import re\nP = {BAD!r}\nre.compile(P)\nre.compile({BAD!r})\n"

@@ -71,8 +71,8 @@ def _shown(match: "Optional[re.Match[Any]]") -> str:
     return " ".join(parts + (["last=%d" % match.lastindex] if match.lastindex else []))
 
 
-def _not_empty(compiled: Any, text: Any, start: int) -> "Optional[re.Match[Any]]":
-    """The first match from a place that isn't empty: a scanner takes it after an empty one."""
+def not_empty(compiled: Any, text: Any, start: int) -> "Optional[re.Match[Any]]":
+    """Returns the first match that begins at `start` and isn't empty, or None. A scanner finds it after an empty one."""
     scanner = compiled.scanner(text, start)
     match: "Optional[re.Match[Any]]" = scanner.match()
     return scanner.match() if match is not None and match.end() == start else match
@@ -85,7 +85,7 @@ def _found(pattern: str, question: Dict[str, Any], text: Any, start: int, may_be
         flags |= _FLAGS[letter]
     compiled: "re.Pattern[Any]" = re.compile(pattern.encode("latin-1") if question.get("bytes") else pattern, flags)
     if not may_be_empty:
-        return _shown(_not_empty(compiled, text, start))
+        return _shown(not_empty(compiled, text, start))
     mode = question.get("mode", "search")
     call = {"fullmatch": compiled.fullmatch, "one-search": compiled.search}.get(mode, compiled.match)
     return _shown(call(text, start))

@@ -1,4 +1,4 @@
-"""Asks relint-spans whether two patterns find the same spans and groups. Its answers are proved."""
+"""Asks relint-spans whether two patterns find the same spans and groups. Its answers, except "unknown", are proved."""
 from __future__ import annotations
 
 import ast
@@ -30,10 +30,11 @@ _KNOWN = sum(VALUES[it] for it in JUDGED)
 
 @dataclass(frozen=True)
 class Said:
-    """The answer of relint-spans: `word` is same, differ or unknown, and `reason` says why it isn't known.
+    """The answer of relint-spans: `word` is same, differ or unknown, and `reason` says why it is unknown ("" otherwise).
 
-    If they differ, the patterns find different matches in `text` from the place `start`. `may_be_empty` is False if they
-    differ only when empty matches don't count. `only_groups` says that both matches have the same span.
+    If `word` is differ, the patterns find different matches in `text` from the position `start`, in characters from 0. The
+    text for bytes patterns is decoded as Latin-1. `may_be_empty` is False if the patterns differ only when an empty match at
+    that position doesn't count. `only_groups` says that both matches have the same span.
     """
 
     word: str
@@ -45,9 +46,13 @@ class Said:
 
 
 class Alike:
-    """A process of relint-spans that answers one question after another. It is started for the first question."""
+    """A process of relint-spans that answers one question after another. It is started for the first question.
+
+    Several threads may call `ask`. `seconds` is how long an answer may take.
+    """
 
     def __init__(self, seconds: float = SECONDS) -> None:
+        """Takes how many seconds an answer may take."""
         self.seconds = seconds
         self._process: Optional["subprocess.Popen[bytes]"] = None
         self._missing = ""
@@ -55,7 +60,12 @@ class Alike:
         self._answers: Dict[Tuple[Text, Text, int, str], Said] = {}
 
     def ask(self, first: Text, second: Text, flags: int, mode: str) -> Said:
-        """Returns the answer for two patterns in a mode. Answers are kept."""
+        """Returns the answer for two patterns, both str or both bytes, under the flags of a call of `re`.
+
+        `mode` is EVERYWHERE, WHOLE or ONE_SEARCH. Answers are kept, unknown ones too. The answer is unknown for flags that
+        aren't analysed and for lone surrogates. It is also unknown if relint-spans isn't there, fails or takes too long; after
+        a failure, the next new question starts it again.
+        """
         key = (first, second, flags, mode)
         with self._lock:
             if key not in self._answers:
@@ -63,13 +73,17 @@ class Alike:
             return self._answers[key]
 
     def close(self) -> None:
-        """Ends the process, if there is one."""
+        """Ends the process, if there is one. The next new question starts another."""
         if self._process is not None:
             self._process.kill()
             self._process.communicate()
             self._process = None
 
     def _said(self, first: Text, second: Text, flags: int, mode: str) -> Said:
+        """Asks the process, and returns its answer, which is unknown if the question can't be asked or isn't answered.
+
+        The process is ended if it fails.
+        """
         if flags & ~(_KNOWN | _WITHOUT_EFFECT):
             return Said(UNKNOWN, "flags that aren't analysed")
         is_bytes = isinstance(first, bytes)
@@ -82,12 +96,16 @@ class Alike:
             return Said(UNKNOWN, "a lone surrogate")
         try:
             return _read(self._answer(line))
-        except (OSError, ProgramError, ValueError, KeyError, TypeError) as error:
+        except (OSError, ProgramError, ValueError, KeyError, TypeError, SyntaxError) as error:
             self.close()
             return Said(UNKNOWN, str(error) or type(error).__name__)
 
     def _answer(self, line: bytes) -> bytes:
-        """The line with which relint-spans answers this line. Raises OSError and ProgramError."""
+        """Returns the line with which relint-spans answers this line. Both end with a line end.
+
+        Raises OSError if relint-spans can't be started or written to. Raises ProgramError if it isn't there, if there is no
+        answer in time, if the answer is too long, or if the process ended.
+        """
         process = self._begun()
         assert process.stdin and process.stdout
         process.stdin.write(line)
@@ -104,7 +122,11 @@ class Alike:
         return found
 
     def _begun(self) -> "subprocess.Popen[bytes]":
-        """The process, which is started if there is none. Raises ProgramError if relint-spans isn't there."""
+        """Returns the process, which is started if there is none.
+
+        Raises ProgramError if relint-spans isn't there now or wasn't there when it was first looked for, and OSError if it
+        can't be started.
+        """
         if self._missing:
             raise ProgramError(self._missing)
         if self._process is None:
@@ -118,11 +140,15 @@ class Alike:
 
 
 def _as_text(pattern: Text) -> str:
+    """Returns the pattern as text; bytes are decoded as Latin-1."""
     return pattern.decode("latin-1") if isinstance(pattern, bytes) else pattern
 
 
 def _read(line: bytes) -> Said:
-    """Reads an answer. Raises ValueError, KeyError or TypeError if the line isn't one."""
+    """Returns the answer that is in `line`, a line of JSON from relint-spans.
+
+    Raises ValueError, KeyError, TypeError or SyntaxError if the line isn't an answer.
+    """
     said: Dict[str, Any] = json.loads(line)
     word = said["answer"]
     if word == SAME:
@@ -143,5 +169,5 @@ atexit.register(_shared.close)
 
 
 def shared() -> Alike:
-    """Returns the process that answers all questions of this Python process."""
+    """Returns the one `Alike` that this Python process shares, always the same. It is closed when Python exits."""
     return _shared

@@ -1,7 +1,8 @@
 """The classes of characters that one or two patterns tell apart, and how a set of characters is written.
 
-The codes are divided into *atoms*: two codes are in the same atom if every set holds both or neither of them. A set made of
-atoms is written as a *mask*, a whole number with one bit for each of its atoms.
+The codes from 0 to `top` are divided into *atoms*: two codes are in the same atom if every set of the alphabet holds both or
+neither of them. A set made of atoms is written as a *mask*, a whole number in which bit n says that the atom number n is in
+the set.
 """
 from __future__ import annotations
 
@@ -20,10 +21,17 @@ MOST_WIDE_RANGES = 3
 
 
 class Alphabet:
-    """The atoms of some sets of codes, under the flags of the whole pattern."""
+    r"""Divides the codes from 0 to `top` into atoms, by given sets, the six categories such as `\d`, and the newline.
+
+    `flags` are those of the whole pattern; they decide what the categories are and how a set is written. `atoms` has the set
+    of each atom, at the position of its number from 0. `full` is the mask of all atoms, `newline` the mask of the newline.
+    """
 
     def __init__(self, sets: Iterable[Ranges], flags: int, top: int, set_of: Callable[[str], Optional[Ranges]]) -> None:
-        """Takes the sets, the flags and the highest code; `set_of` returns the set that the text of a class stands for."""
+        """Takes the sets, the flags, and the highest code; codes of the sets above it are left out.
+
+        `set_of` returns the set that a text such as `[a-c]` or `.` matches, or None if the text isn't a single class.
+        """
         self.flags = flags
         self.top = top
         self._set_of = set_of
@@ -37,7 +45,8 @@ class Alphabet:
         self._shown: Dict[int, Optional[str]] = {}
 
     def _split(self, sets: Sequence[Ranges]) -> Tuple[Ranges, ...]:
-        """Returns the atoms of the sets, by their first codes, and notes the mask of each set."""
+        """Returns the atoms of the sets, in the order of their lowest codes, and notes the mask of each set."""
+        # The sets, as bits, that begin at a code or have ended before it; `sign` are those that hold the codes from there on.
         turns: Dict[int, int] = {0: 0}
         for number, ranges in enumerate(sets):
             for first, last in ranges:
@@ -54,30 +63,40 @@ class Alphabet:
         return tuple(codes.merged(parts[it]) for it in signs)
 
     def mask(self, ranges: Ranges) -> int:
-        """Returns the mask of one of the sets from which the alphabet was made."""
+        """Returns the mask of a set by which the alphabet was divided. Raises KeyError for any other set."""
         return self._masks[ranges]
 
     def category(self, letter: str) -> int:
-        r"""Returns the mask of `\d`, `\s`, `\w`, `\D`, `\S` or `\W`."""
+        r"""Returns the mask of `\d`, `\s`, `\w`, `\D`, `\S` or `\W`, given its letter, under the flags of the alphabet.
+
+        Raises KeyError for any other letter.
+        """
         return self._masks[self._categories[letter]]
 
     def word(self, ascii_only: bool) -> int:
-        """Returns the mask of the word characters for a word boundary; the alphabet has to be made from that set too."""
+        """Returns the mask of the word characters for a word boundary under ASCII (`ascii_only`) or without it.
+
+        Raises KeyError if that set isn't among those by which the alphabet was divided.
+        """
         return self._masks[codes.up_to(codes.named("w", ascii_only), self.top)]
 
     def ranges(self, mask: int) -> Ranges:
-        """Returns the set of the codes in a mask."""
+        """Returns the set of the codes in a mask, as sorted ranges; () for the mask 0."""
         return codes.merged(pair for at, atom in enumerate(self.atoms) if mask >> at & 1 for pair in atom)
 
     def atom(self, code: int) -> int:
-        """Returns the mask of the atom that holds the code, or 0 if none does."""
+        """Returns the mask of the atom that holds the code, or 0 if the code is above `top`."""
         for at, ranges in enumerate(self.atoms):
             if any(first <= code <= last for first, last in ranges):
                 return 1 << at
         return 0
 
     def code(self, mask: int) -> int:
-        """Returns one code of a mask that isn't empty: a printable ASCII code if there is one, otherwise the lowest code."""
+        """Returns one code of a mask; raises IndexError for the mask 0.
+
+        It is the lowest code from `a` to `~`; if there is none, from `0` to `~`, then from `!` to `~`, and otherwise the
+        lowest of all.
+        """
         ranges = self.ranges(mask)
         for wanted in (97, 48, 33):
             for first, last in ranges:
@@ -86,7 +105,10 @@ class Alphabet:
         return ranges[0][0]
 
     def show(self, mask: int) -> Optional[str]:
-        """Returns the shortest text found for a character or class that matches exactly the mask; None if none was found."""
+        r"""Returns the shortest text found that matches any one character of the mask and nothing else, such as `[a-c]`.
+
+        Of equally short texts, it is the first found. It is `[^\s\S]` for the mask 0. Returns None if no text was found.
+        """
         if mask not in self._shown:
             wanted = self.ranges(mask)
             fitting = [it for it in self._texts(mask, wanted) if self._set_of(it) == wanted]
@@ -94,7 +116,7 @@ class Alphabet:
         return self._shown[mask]
 
     def _texts(self, mask: int, wanted: Ranges) -> Iterable[str]:
-        """Yields texts that may match exactly the mask; `wanted` is its set."""
+        """Yields texts of single characters or classes that may match exactly the mask; `wanted` is the set of the mask."""
         if mask == self.full:
             yield "." if self.flags & re.DOTALL else "[\\s\\S]"
             return
@@ -115,7 +137,7 @@ class Alphabet:
                     yield f"(?-i:[{sign}{inside}])"
 
     def _insides(self, mask: int) -> Iterable[str]:
-        """Yields texts for the inside of a class, with up to two categories such as `d` and the remaining ranges."""
+        r"""Yields texts for the inside of a class, with up to two categories such as `\d` and ranges for what they leave."""
         inner = [it for it in CATEGORIES if self.category(it) & ~mask == 0]
         for count in range(3):
             for taken in combinations(inner, count):
@@ -125,9 +147,10 @@ class Alphabet:
                 yield from self._written("".join("\\" + it for it in taken), self.ranges(rest))
 
     def _written(self, front: str, rest: Ranges) -> Iterable[str]:
-        """Yields texts for the inside of a class: `front` and the ranges, unless too many of these are above 127.
+        """Yields texts for the inside of a class: `front` followed by the ranges `rest`.
 
-        Under IGNORECASE it also yields a text without the ranges above 127, since the other letters may match these codes too.
+        The text with all ranges is left out if more than MOST_WIDE_RANGES of them are above 127. Under IGNORECASE, if there
+        are ranges above 127, the text without them comes first. No text is empty.
         """
         narrow = [(first, min(last, 127)) for first, last in rest if first < 128]
         wide = [(max(first, 128), last) for first, last in rest if last >= 128]
@@ -138,12 +161,17 @@ class Alphabet:
             yield text + "".join(self._range(*it) for it in wide)
 
     def _range(self, first: int, last: int) -> str:
+        """Returns the text of all codes from `first` to `last`, both included, inside a class."""
         if last - first < 2:
             return "".join(self.escape(it, True) for it in range(first, last + 1))
         return self.escape(first, True) + "-" + self.escape(last, True)
 
     def escape(self, code: int, in_class: bool) -> str:
-        """Returns the text of one code, inside a class if `in_class`, otherwise outside."""
+        """Returns the text of one code: inside a class if `in_class`, otherwise outside one.
+
+        It is escaped if it has a meaning of its own there, if it is one of `[&~|` in a class, if it can't be printed, or if it
+        is above 126 and `top` is 255.
+        """
         if code in PLAIN_ESCAPES:
             return PLAIN_ESCAPES[code]
         letter = chr(code)

@@ -1,7 +1,8 @@
 """Asks relint about patterns, with few processes.
 
 The classes of many patterns are asked at once: `relint check` reads a source made of calls with these patterns. `relint
-compare` takes two patterns as arguments, and needs a run for each question. Answers are kept, so nothing is asked twice.
+compare` takes two patterns as arguments, and needs a run for each question. Answers are kept, so nothing is asked twice until
+they are forgotten.
 """
 from __future__ import annotations
 
@@ -24,11 +25,17 @@ SECONDS = 300.0
 
 
 def _call(pattern: Text, flags: int, mode: str) -> str:
+    """Returns a line of source that uses a pattern in a mode, such as `re.search('a', s, re.I)`, with its line end."""
     return f"re.{mode}({ascii(pattern)}, s{flags_code(flags)})\n"
 
 
 class Comparison(NamedTuple):
-    """The answer of `relint compare`: the relation, and texts that only the first or only the second pattern matches."""
+    """The answer of `relint compare` about two patterns.
+
+    `relation` is its first line, such as "equal", "included" or "passed over 20000", or else "not asked" or "refused". `first`
+    is a text that only the first pattern matches, `second` one that only the second pattern matches, each None if there is
+    none or none is known.
+    """
 
     relation: str
     first: Optional[Text] = None
@@ -36,12 +43,15 @@ class Comparison(NamedTuple):
 
 
 class Asker:
-    """Asks relint, and keeps the answers. `runs` counts the processes, and `compared` the questions to `relint compare`.
+    """Asks relint, and keeps the answers. `runs` counts the runs of relint, and `compared` those of `relint compare`.
 
-    A question that takes longer than `seconds` has no answer. Methods raise ProgramError if relint can't be run.
+    A run that takes longer than `seconds` is ended, and gives no answer. `classes`, `compare` and `equal` raise ProgramError
+    if relint can't be run. `classes` also raises it if relint fails or gives no report, and OSError if its temporary file
+    can't be written.
     """
 
     def __init__(self, seconds: float = SECONDS) -> None:
+        """Takes how many seconds one run of relint may take."""
         self.seconds = seconds
         self.runs = 0
         self.compared = 0
@@ -54,6 +64,10 @@ class Asker:
         self._comparisons.clear()
 
     def _run(self, words: Sequence[str]) -> Optional["subprocess.CompletedProcess[bytes]"]:
+        """Counts and makes a run of relint with these arguments; returns None if it took too long.
+
+        Raises ProgramError if relint can't be run.
+        """
         self.runs += 1
         whole = [program(), *words]
         try:
@@ -65,7 +79,10 @@ class Asker:
             raise ProgramError(f"{whole[0]} can't be run: {error}") from error
 
     def classes(self, patterns: Sequence[Text], flags: int, mode: str) -> List[Optional[Verdict]]:
-        """Returns the class of each pattern in a mode, or None for a pattern that relint refuses or takes too long for."""
+        """Returns the class of each pattern in a mode (fullmatch, match or search), in order; [] for no patterns.
+
+        It is None if relint refuses the pattern, takes too long or too much memory for it, or is ended by a signal.
+        """
         new = [it for it in dict.fromkeys(patterns) if (it, flags, mode) not in self._classes]
         if new:
             for pattern, verdict in zip(new, self._judged(new, flags, mode)):
@@ -73,7 +90,10 @@ class Asker:
         return [self._classes[it, flags, mode] for it in patterns]
 
     def _judged(self, patterns: List[Text], flags: int, mode: str) -> List[Optional[Verdict]]:
-        """The classes of patterns; if one run takes too long or too much memory, they are asked in halves."""
+        """Returns the classes of one or more patterns; if a run for all gives no answer, asks about each half by itself.
+
+        A pattern for which even a run of its own gives no answer gets None.
+        """
         answers = self._checked(patterns, flags, mode)
         if answers is not None:
             return answers
@@ -84,7 +104,11 @@ class Asker:
         return self._judged(patterns[:half], flags, mode) + self._judged(patterns[half:], flags, mode)
 
     def _checked(self, patterns: List[Text], flags: int, mode: str) -> Optional[List[Optional[Verdict]]]:
-        """The classes of patterns by one run, or None if it took too long or too much memory. Raises ProgramError."""
+        """Returns the classes of patterns by one run, or None if it took too long or too much memory, or if a signal ended it.
+
+        The class of a pattern that relint refuses is None. Raises ProgramError if relint can't be run or the run failed in
+        another way, and OSError if the temporary file can't be written.
+        """
         source = "import re\n" + "".join(_call(it, flags, mode) for it in patterns)
         with tempfile.TemporaryDirectory(prefix="relint-mend-") as folder:
             path = os.path.join(folder, "asked.py")
@@ -104,13 +128,19 @@ class Asker:
         return [found.get(at + 2) for at in range(len(patterns))]
 
     def compare(self, left: Text, right: Text, flags: int, mode: str) -> Comparison:
-        """Returns the answer of `relint compare`; "not asked" if a pattern can't be an argument or the run took too long."""
+        """Returns how the texts that two patterns match in a mode are related.
+
+        The relation is "equal", without a question, if both are the same argument; otherwise "not asked" if one can't be an
+        argument of a program or the run took too long, "refused" if relint refuses one or fails, and else relint's answer.
+        Raises ReportError if a text in that answer can't be read.
+        """
         key = (_word(left, flags), _word(right, flags), mode)
         if key not in self._comparisons:
             self._comparisons[key] = self._compared(*key)
         return self._comparisons[key]
 
     def _compared(self, one: str, other: str, mode: str) -> Comparison:
+        """Returns what `compare` does, for two patterns as arguments. Runs relint unless they are equal or can't be given."""
         if one == other:
             return Comparison("equal")
         try:
@@ -132,11 +162,18 @@ class Asker:
         return Comparison(lines[0] if lines else "refused", first, second)
 
     def equal(self, left: Text, right: Text, flags: int, modes: Sequence[str]) -> bool:
-        """Returns whether relint proves that two patterns match the same texts in each of the modes."""
+        """Returns whether two patterns match the same texts in each mode: relint proves it, or they are the same argument.
+
+        Returns True if there are no modes. Raises ReportError as `compare` does.
+        """
         return all(self.compare(left, right, flags, it).relation == "equal" for it in modes)
 
 
 def _word(pattern: Text, flags: int) -> str:
+    """Returns a pattern as the argument for `relint compare`, with those of the flags in front that relint judges.
+
+    A bytes pattern is decoded as Latin-1, and becomes a text pattern under ASCII.
+    """
     if isinstance(pattern, bytes):
         # (a bytes pattern is like a text pattern under ASCII, if only codes below 256 count)
         return front(flags | re.ASCII) + pattern.decode("latin-1")

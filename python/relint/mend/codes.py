@@ -1,6 +1,7 @@
 """Sets of codes as sorted ranges, and the sets that the running Python's `re` knows by name.
 
-A set is a tuple of pairs (first, last) in rising order, with gaps between them. Equal sets are equal tuples.
+A code is a code point, or a byte of a bytes pattern. A set is a tuple of pairs (first, last), both included, in rising order
+and with at least one code missing between two pairs. So equal sets are equal tuples.
 """
 from __future__ import annotations
 
@@ -16,7 +17,7 @@ NEWLINE: Ranges = ((10, 10),)
 
 
 def merged(pairs: Iterable[Tuple[int, int]]) -> Ranges:
-    """Returns the set of all codes in these pairs, which may come in any order and overlap."""
+    """Returns the set of all codes in these pairs (first, last), which may come in any order and overlap; () for none."""
     found: List[Tuple[int, int]] = []
     for first, last in sorted(pairs):
         if found and first <= found[-1][1] + 1:
@@ -27,7 +28,7 @@ def merged(pairs: Iterable[Tuple[int, int]]) -> Ranges:
 
 
 def complement(ranges: Ranges, top: int = TOP) -> Ranges:
-    """Returns the codes from 0 to `top` that aren't in the set."""
+    """Returns the set of the codes from 0 to `top` that aren't in the set; () if there are none."""
     found: List[Tuple[int, int]] = []
     at = 0
     for first, last in ranges:
@@ -53,12 +54,16 @@ def size(ranges: Ranges) -> int:
 
 @lru_cache(maxsize=1)
 def _every_code() -> str:
+    """Returns a text of all code points in order, surrogates included."""
     return "".join(map(chr, range(TOP + 1)))
 
 
 @lru_cache(maxsize=1)
 def _cased_codes() -> str:
-    """The characters that have another case, and so can match another character under IGNORECASE."""
+    """Returns a text of the characters that have another case, in order.
+
+    Under IGNORECASE only these can match another character than themselves.
+    """
     found = []
     for start in range(0, TOP, 256):
         block = _every_code()[start:start + 256]
@@ -69,7 +74,10 @@ def _cased_codes() -> str:
 
 @lru_cache(maxsize=None)
 def named(letter: str, ascii_only: bool) -> Ranges:
-    r"""Returns the set of codes that `\d`, `\D`, `\s`, `\S`, `\w` or `\W` matches in `re`."""
+    r"""Returns the set of the code points that `\d`, `\D`, `\s`, `\S`, `\w` or `\W` matches, whose letter is `letter`.
+
+    With `ascii_only`, that is under the flag ASCII.
+    """
     if letter.isupper():
         return complement(named(letter.lower(), ascii_only))
     runs = re.compile(f"\\{letter}+", re.ASCII if ascii_only else 0)
@@ -77,13 +85,19 @@ def named(letter: str, ascii_only: bool) -> Ranges:
 
 
 def spelled(ranges: Ranges) -> str:
-    r"""Returns the inside of a class `[..]` that matches exactly these codes, written only with escapes by number."""
+    r"""Returns the inside of a class `[..]` that matches exactly these codes (without IGNORECASE); "" for ().
+
+    Each range is written as `\Uhhhhhhhh-\Uhhhhhhhh`.
+    """
     return "".join(f"\\U{first:08x}-\\U{last:08x}" for first, last in ranges)
 
 
 @lru_cache(maxsize=4096)
 def closed(ranges: Ranges, ascii_only: bool) -> Ranges:
-    """Returns the set with every code added that `re` lets one of its codes match under IGNORECASE."""
+    """Returns the set with all codes added that a class of this set matches in `re` under IGNORECASE.
+
+    With `ascii_only`, that is under IGNORECASE and ASCII.
+    """
     if not ranges:
         return ranges
     flags = re.IGNORECASE | (re.ASCII if ascii_only else 0)

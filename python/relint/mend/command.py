@@ -17,7 +17,7 @@ from ..facts import Sources, site_of
 from ..flags import JUDGED, VALUES
 from ..judging import SECONDS, TOTAL_SECONDS
 from ..opening import HERE, OpenError, place_of, read_named
-from ..reports import Entry, MOST_BYTES, ReportError, Text, Verdict, check_paths, own_of, read_report, read_stream
+from ..reports import Entry, MOST_BYTES, ReportError, Text, Verdict, check_paths, own_of, read_report
 from ..sites import Site, Source
 from ..used.classes import UNUSED, AsUsed
 from ..used.follow import mode_of
@@ -38,12 +38,18 @@ LETTERS = {it.lower(): VALUES[it] for it in JUDGED}
 
 
 class Bad(Exception):
-    """Raised if what was given can't be used; the message says why."""
+    """Raised if what the user gave can't be used; the message says why."""
 
 
 @dataclass(frozen=True)
 class Finding:
-    """A finding with its pattern and how the code calls it, or with the reason why its pattern isn't known."""
+    """A finding of a report, `entry`, with what is known of its pattern.
+
+    `mode` is the mode in which its class is to become lower, and `how` says how the code calls it. `source` is its file and
+    `site` the place of its literals. Each is None if it isn't known, and `site` also if no time is left to search; then `why`
+    says why ("" otherwise). `used` has the uses of the
+    pattern that were found in the code, with its class under them, or is None if they aren't known.
+    """
 
     entry: Entry
     mode: str
@@ -54,12 +60,20 @@ class Finding:
     why: str = ""
 
     def chosen(self, cures: Sequence[Cure], tier: str) -> Optional[Cure]:
-        """Returns the cure to use if cures up to this tier are asked for, or None: the best by its tier, then by its class."""
+        """Returns the cure to use if cures up to this tier are asked for, or None if none is within it.
+
+        The tier of a cure is here the one that `needed` gives. The best tier is chosen, a before b before c, then the lowest
+        class; of equal ones, the first.
+        """
         fitting = [(self.needed(it), order(it.verdict), at) for at, it in enumerate(cures) if self.needed(it) <= tier]
         return cures[min(fitting)[2]] if fitting else None
 
     def needed(self, cure: Cure) -> str:
-        """Returns the tier that the user has to ask for to get a cure: a for a fix, otherwise its own, but at least b."""
+        """Returns the tier that the user has to ask for to get a cure.
+
+        That is "a" for a fix, which is a cure that changes nothing that the code sees as far as its calls are known, whatever
+        its tier; otherwise "b" for a cure of tier a or b, and "c" for one of tier c.
+        """
         is_fix = self.source is not None and self.site is not None and (
             offer_of(self.source, self.site, self.how, cure).kind == FIX)
         return "a" if is_fix else max("b", cure.tier)
@@ -92,15 +106,22 @@ def arguments() -> argparse.ArgumentParser:
 
 
 def costliest(asker: Asker, pattern: Text, flags: int) -> str:
-    """Returns the mode in which the class of a pattern is worst; of equal ones search, then match."""
+    """Returns the mode in which the class of a pattern is highest; of equal ones search, then match.
+
+    A class that is undecided, or that relint doesn't give, counts as the highest. Raises ProgramError if relint can't be run.
+    """
     modes = ("search", "match", "fullmatch")
     return max(modes, key=lambda it: order(asker.classes([pattern], flags, it)[0]))
 
 
 class Mender:
-    """Searches for cures of one pattern after another, and keeps the outcomes."""
+    """Searches for cures of one pattern after another. It keeps the outcomes, so that no search is made twice.
+
+    `limits` are the limits of each search, and `asker` asks relint.
+    """
 
     def __init__(self, limits: Limits) -> None:
+        """Takes the limits of each search."""
         self.limits = limits
         self.asker = Asker()
         self._known: Dict[Tuple[Text, How, Optional[str]], Outcome] = {}
@@ -108,7 +129,8 @@ class Mender:
     def outcome(self, pattern: Text, how: How, mode: Optional[str]) -> Outcome:
         """Returns the outcome of the search for a pattern that is called in this way.
 
-        The class in `mode` is to become lower, or the class in the costliest mode if `mode` is None.
+        The class in `mode` is to become lower, or the class in the costliest mode if `mode` is None. Raises ProgramError if
+        relint can't be run.
         """
         key = (pattern, how, mode)
         if key not in self._known:
@@ -119,16 +141,21 @@ class Mender:
 
 
 def _text(pattern: Text) -> str:
+    """Returns a str pattern as it is, and a bytes pattern as a literal."""
     return pattern if isinstance(pattern, str) else ascii(pattern)
 
 
 def _line(cure: Cure, shown: str) -> str:
+    """Returns the line for a cure, whose pattern is written as `shown`: both classes, the pattern, and what is known of it."""
     before = cure.before.words() + ("" if cure.mode == "search" else f" as {cure.mode}")
     return f"{before} -> {cure.verdict.words()}    {shown}    {cure.words()}"
 
 
 def said(outcome: Outcome) -> List[str]:
-    """Returns the lines for an outcome: its cures, the best one first, and notes; or advice if there is no cure."""
+    """Returns the lines for an outcome: its cures, the best one first, each with what it changes, and then notes.
+
+    Returns the lines of `advice` if there is no cure.
+    """
     lines: List[str] = []
     for cure in outcome.cures:
         text = _text(cure.pattern)
@@ -139,13 +166,13 @@ def said(outcome: Outcome) -> List[str]:
 
 
 def _why(changes: str, lines: Sequence[str]) -> List[str]:
-    """The line that says what was changed, unless it is among `lines` already."""
+    """Returns a list of the line that says what was changed; it is empty if `lines` has that line or `changes` is ""."""
     line = f"  why: {changes}"
     return [] if line in lines or not changes else [line]
 
 
 def _object(outcome: Outcome) -> Dict[str, object]:
-    """An outcome as values for JSON."""
+    """Returns an outcome as values for JSON; "before" is None if relint gave no class, "said" is advice without a cure."""
     cures = [{"pattern": _text(it.pattern), "tier": it.tier, "becomes": it.verdict.words(), "words": it.words(),
               "position": it.judgement.position, "steps": list(it.steps), "changes": it.changes()} for it in outcome.cures]
     before = outcome.before.words() if outcome.before else None
@@ -156,7 +183,12 @@ def _object(outcome: Outcome) -> Dict[str, object]:
 
 
 def mend_patterns(options: argparse.Namespace, mender: Mender) -> int:
-    """Shows cures for the patterns that --pattern gives, and returns the exit status. Raises Bad and ProgramError."""
+    """Shows cures for the patterns that --pattern gives, and returns the exit status.
+
+    That is LEFT if a pattern is still a finding or undecided with its best cure, or without one; otherwise DONE. Raises Bad if
+    --flags has an unknown letter, if a pattern is the name of a file or folder that is there, or if relint gives it no class,
+    and ProgramError if relint can't be run.
+    """
     flags = _flags(options.flags)
     max_degree = MAX_DEGREE if options.max_degree is None else options.max_degree
     for pattern in options.pattern:
@@ -178,20 +210,26 @@ def mend_patterns(options: argparse.Namespace, mender: Mender) -> int:
 
 
 def _say(lines: Sequence[str]) -> None:
-    """Writes lines, escaped so that they can't control a terminal or a build server. A line may contain line ends."""
+    """Writes lines to standard output, escaped so that they can't control a terminal or a build server.
+
+    A line may contain line ends, which stay.
+    """
     gather.write("".join(f"{line(it)}\n" for one in lines for it in escaped(one, "\n").split("\n")))
     gather.flush()
 
 
 def _still(outcome: Outcome, after: Verdict, max_degree: int) -> List[str]:
-    """The line that says that the pattern is a finding even with the cure, or nothing if it isn't."""
+    """Returns a list of the line that says that the best cure is still a finding; it is empty if it isn't one.
+
+    It is also empty if there is no cure. `after` is the class of the best cure.
+    """
     if not outcome.cures or not is_finding(after, max_degree):
         return []
     return [f"  still a finding: {after.words()} is above --max-degree {max_degree}"]
 
 
 def _flags(letters: str) -> int:
-    """The flags that letters name. Raises Bad for a letter that isn't known."""
+    """Returns the flags that the letters name. Raises Bad for a letter that isn't known."""
     unknown = set(letters) - set(LETTERS)
     if unknown:
         raise Bad(f"--flags takes the letters {' '.join(LETTERS)}, and not {' '.join(sorted(unknown))}")
@@ -209,7 +247,13 @@ Chosen = Dict[str, List[Tuple[Finding, Cure]]]
 
 @dataclass(frozen=True)
 class Reported:
-    """The entries and findings of a report, the mode in which it judges `compile`, and the options that it was made with."""
+    """The entries and findings of a report, and the options with which it was made.
+
+    `compile_as` is the mode in which it judges `compile`, and `options` are the words that give `relint check` the same
+    entries. `max_degree` is the highest degree that is no finding, and `max_pairs` the limit of --max-pairs, or None. `files`
+    are the files that were selected, and `folders` those below which files are read. `strict` says that the exit status
+    counts a finding as left even if its class is low enough under all its uses.
+    """
 
     entries: Sequence[Entry]
     findings: Sequence[Entry]
@@ -222,7 +266,10 @@ class Reported:
     strict: bool = False
 
     def within(self, path: str) -> str:
-        """Returns the folder below which a file is read and written: the current one or a named one. Raises Bad if in none."""
+        """Returns the folder below which a file is read and written: one of `folders` or, if `files` has any, the current one.
+
+        Raises Bad if the file is below none of them.
+        """
         try:
             return place_of(path, [*HERE, *self.folders] if self.files else self.folders)[0] or "."
         except OpenError as error:
@@ -230,14 +277,18 @@ class Reported:
 
 
 def reported(options: argparse.Namespace) -> Reported:
-    """Returns the report that the command line names, or that a run over its paths gives. Raises Bad and GatherError."""
+    """Returns the report that the command line names, or that a run over its paths gives.
+
+    A run writes notes to standard error. Raises Bad if the report or a path can't be used, and GatherError if relint gives no
+    report.
+    """
     if options.report and options.report != "-":
         return _from_file(options)
     _refuse_missing(options.paths)
     # (only a pattern that is a literal of the source can be replaced, so relint-wide isn't needed)
     options.shows_beyond = False
     given = gather.gathered(options)
-    gather.tell("relint-mend", given)
+    gather.write_notes("relint-mend", given)
     accepted = [it.entry for it, _ in given.split.known] if given.split else []
     entries = sorted(own_of([*given.report.entries, *accepted]), key=_order)
     asked = ["--mode", given.compile_as] + ([f"--max-pairs={given.max_pairs}"] if given.max_pairs else [])
@@ -247,6 +298,7 @@ def reported(options: argparse.Namespace) -> Reported:
 
 
 def _from_file(options: argparse.Namespace) -> Reported:
+    """Returns the report in the file that --report names. Raises Bad if it can't be read or used."""
     folders = (options.within or ".",)
     entries = _read(options.report, folders)
     max_degree = MAX_DEGREE if options.max_degree is None else options.max_degree
@@ -256,13 +308,17 @@ def _from_file(options: argparse.Namespace) -> Reported:
 
 
 def _order(entry: Entry) -> Tuple[str, int, int]:
-    """A key that sorts entries by path and place."""
+    """Returns a key that sorts entries by path and place; an entry without a place comes before the others of its path."""
     return (entry.path, entry.place.line, entry.place.column) if entry.place else (entry.path, 0, 0)
 
 
 def _read(path: str, folders: Sequence[str]) -> List[Entry]:
+    """Returns relint's own entries in the report at `path`.
+
+    Raises Bad if the report can't be read or used, or if it names a path outside of all `folders`.
+    """
     try:
-        report = read_report(read_stream(sys.stdin.buffer) if path == "-" else read_named(path, MOST_BYTES))
+        report = read_report(read_named(path, MOST_BYTES))
         check_paths(report, folders)
         return list(own_of(report.entries))
     except OpenError as error:
@@ -272,6 +328,7 @@ def _read(path: str, folders: Sequence[str]) -> List[Entry]:
 
 
 def _refuse_missing(paths: Sequence[str]) -> None:
+    """Raises Bad if one of the paths isn't there; `-`, for standard input, always is."""
     for path in paths:
         if path != "-" and not os.path.lexists(path):
             raise Bad(f"{path} isn't there: name a file or folder, or give a pattern with --pattern")
@@ -287,6 +344,10 @@ def findings_of(report: Reported) -> Iterator[Finding]:
 
 
 def _finding(entry: Entry, compile_as: str, sources: Sources, used: Optional[AsUsed]) -> Finding:
+    """Returns a finding for an entry; `used` says how its pattern is used, or is None if that isn't known.
+
+    `sources` reads the file of the entry. `compile_as` is the mode in which the report judges `compile`.
+    """
     source, site = site_of(sources, entry)
     call = entry.call or "compile"
     mode = mode_of(entry.call, compile_as)
@@ -303,7 +364,11 @@ def _finding(entry: Entry, compile_as: str, sources: Sources, used: Optional[AsU
 
 @dataclass
 class Counts:
-    """Counts of findings: mended, better but still a finding, not reached by a use, or left as they are."""
+    """Counts of findings, each counted once.
+
+    `mended` have a cure that is no finding, and `still` only one that is a finding too. `unused` are no findings under their
+    uses, and `left` have no cure that may be used.
+    """
 
     mended: int = 0
     still: int = 0
@@ -320,12 +385,17 @@ class Counts:
         return f"{plain.counted(every, 'finding')}: {', '.join(parts)}"
 
     def status(self) -> int:
-        """Returns the exit status: DONE if no use of a pattern is a finding any more, otherwise LEFT."""
+        """Returns the exit status: LEFT if a finding is counted in `still` or `left`, otherwise DONE."""
         return LEFT if self.still or self.left else DONE
 
 
 def mend_report(options: argparse.Namespace, mender: Mender) -> int:
-    """Mends the findings of a report, and returns the exit status: shows the cures, writes a diff, or changes the files."""
+    """Mends the findings of a report: shows the cures, writes a diff, or changes the files. Returns the exit status.
+
+    That is `Counts.status`, or LEFT if the report is strict and a finding is counted as unused. Findings that come after
+    --total-seconds are left. Raises Bad and GatherError as `reported` does, Bad for a file outside of the folders, and
+    ProgramError if relint can't be run.
+    """
     report = reported(options)
     counts = Counts()
     chosen: Chosen = {}
@@ -346,7 +416,11 @@ def mend_report(options: argparse.Namespace, mender: Mender) -> int:
 
 
 def _mended(finding: Finding, report: Reported, options: argparse.Namespace, mender: Mender, counts: Counts) -> Optional[Cure]:
-    """Shows the cures of a finding, counts it, and returns the cure to use, or None if there is none."""
+    """Shows the cures of a finding, counts it, and returns the cure to use, or None if there is none.
+
+    A finding whose class is low enough under all its uses gets no cure, and is shown only as text. With --diff or --apply
+    nothing is shown. If the source or the site is None, standard error says why.
+    """
     quiet = options.diff or options.apply
     if finding.site is None or finding.source is None:
         print(visible(f"relint-mend: {_head(finding.entry)}{finding.why}"), file=sys.stderr)
@@ -372,7 +446,7 @@ def _mended(finding: Finding, report: Reported, options: argparse.Namespace, men
 
 
 def _head(entry: Entry) -> str:
-    """The beginning of a line about an entry: its path, its place and its call."""
+    """Returns the beginning of a line about an entry: its path, and its place and its call if it has them."""
     place = f":{entry.place.line}:{entry.place.column}" if entry.place else ""
     return f"{visible(entry.path)}{place}: " + (f"{entry.call}: " if entry.call else "")
 
@@ -392,6 +466,7 @@ def _tell(finding: Finding, outcome: Outcome, options: argparse.Namespace) -> No
 
 
 def _offers(finding: Finding, outcome: Outcome) -> Dict[str, object]:
+    """Returns the offers for a finding as values for JSON, under the key "offers"; no key if its literals aren't known."""
     if finding.source is None or finding.site is None:
         return {}
     every = offered(finding.source, finding.site, finding.how, outcome.cures)
@@ -401,7 +476,10 @@ def _offers(finding: Finding, outcome: Outcome) -> Dict[str, object]:
 
 
 def _offer_lines(finding: Finding, outcome: Outcome) -> Iterator[str]:
-    """Yields lines with the cures of a finding, as literals for the source. One of several lines comes after its line."""
+    """Yields lines with the cures of a finding, as literals for the source.
+
+    A literal of several lines comes after its line. Yields none if there is no cure, or if the literals aren't known.
+    """
     if finding.source is None or finding.site is None or outcome.before is None:
         return
     before = outcome.before.words() + ("" if outcome.mode == "search" else f" as {outcome.mode}")
@@ -414,12 +492,21 @@ def _offer_lines(finding: Finding, outcome: Outcome) -> Iterator[str]:
 
 
 def _offer_line(before: str, offer: Offer) -> str:
+    """Returns the line for an offer; `before` is the class of the original in words.
+
+    A literal of several lines is replaced by "(below)".
+    """
     shown = "(below)" if "\n" in offer.literal else offer.literal
     return f"{before} -> {offer.verdict.words()}    {shown}    {offer.kind}: {offer.words}"
 
 
 def _change(options: argparse.Namespace, report: Reported, chosen: Chosen, counts: Counts) -> None:
-    """Puts the cures into their files, or writes the diff. The findings of a file that is refused count as left."""
+    """Puts the cures into their files, or writes the diff to standard output.
+
+    With --apply, standard output says how many findings of each file are mended. The findings of a file that is refused are
+    counted as left instead, and standard error says why. Raises Bad for a file outside of the report's folders, and
+    ProgramError if relint can't be run.
+    """
     for path, every in chosen.items():
         still = sum(is_finding(cure.verdict, report.max_degree) for _, cure in every)
         try:
@@ -443,7 +530,11 @@ def _change(options: argparse.Namespace, report: Reported, chosen: Chosen, count
 
 
 def _put(change: Change, finding: Finding, cure: Cure, compile_as: str) -> None:
-    """Puts a cure into a file in memory, with its class in the mode of the report. Raises Unchangeable and ProgramError."""
+    """Puts a cure into a file in memory, with its class in the mode of the report.
+
+    Does nothing if relint gives no class, or if the finding has no site. Raises Unchangeable if it can't be written
+    there, and ProgramError if relint can't be run.
+    """
     mode = mode_of(finding.entry.call, compile_as)
     verdict = cure.verdict if mode == finding.mode else Asker().classes([cure.pattern], finding.how.flags, mode)[0]
     if finding.site is not None and verdict is not None:
@@ -451,7 +542,7 @@ def _put(change: Change, finding: Finding, cure: Cure, compile_as: str) -> None:
 
 
 def _check_words(parser: argparse.ArgumentParser, options: argparse.Namespace) -> None:
-    """Ends the tool with an error if options contradict each other."""
+    """Ends the tool with status 2 and a message if options contradict each other, or if one needs another that is missing."""
     if sum(map(bool, (options.pattern, options.report, options.paths or options.tracked))) > 1:
         parser.error("give paths, --pattern or --report, and only one of these")
     if options.diff and options.apply:
@@ -463,7 +554,12 @@ def _check_words(parser: argparse.ArgumentParser, options: argparse.Namespace) -
 
 
 def main(words: Optional[Sequence[str]] = None) -> int:
-    """Runs the tool; returns its exit status: 0 if all is mended, 1 if something is left, others for errors."""
+    """Runs the tool; `words` are its arguments, or None for the process's own. Returns its exit status.
+
+    That is 0 if nothing is left to mend or --show-config was given, 1 if something is left, and 2 to 6 for errors; an
+    interrupt from the keyboard gives INTERRUPTED of gather.py. Options that can't be used raise SystemExit. DeprecationWarning
+    and SyntaxWarning of this process are turned off.
+    """
     parser = arguments()
     options = gather.parsed(parser, words)
     _check_words(parser, options)
@@ -473,6 +569,10 @@ def main(words: Optional[Sequence[str]] = None) -> int:
     mender = Mender(Limits(options.tries, options.steps, options.work))
 
     def work() -> int:
+        """Does what the options ask for, and returns the exit status.
+
+        Raises GatherError in place of Bad, and the other exceptions of `mend_patterns` and `mend_report`.
+        """
         if options.show_config:
             return gather.show_config(options)
         try:

@@ -1,7 +1,8 @@
 """Puts cures into sources: as a unified diff, or into the files.
 
-The literals of a pattern are changed in place, and keep their kind of quotes and prefix. A file is refused if it changed since
-the report was made, that is, if `relint check` no longer gives the entries that the report has for it.
+The literals of a pattern are changed in place if they can be, and then keep their kind of quotes and prefix; otherwise a new
+literal replaces the first one, and the others become empty. A file is refused if it changed since the report was made, that
+is, if `relint check` no longer gives the entries that the report has for it. Offsets are in characters of the source, from 0.
 """
 from __future__ import annotations
 
@@ -10,7 +11,9 @@ import difflib
 import os
 import re
 import tempfile
+from bisect import bisect_left, bisect_right
 from dataclasses import dataclass
+from itertools import accumulate
 from pathlib import Path
 from typing import Iterator, List, Optional, Sequence, Tuple
 
@@ -33,7 +36,7 @@ class Unchangeable(Exception):
 
 @dataclass(frozen=True)
 class Edit:
-    """A change of a source's text: the text between two offsets is replaced by `text`."""
+    """A change of a source's text: what is from the offset `start` up to but not including `end` is replaced by `text`."""
 
     start: int
     end: int
@@ -42,7 +45,7 @@ class Edit:
 
 @dataclass(frozen=True)
 class Unit:
-    """The offsets in the source between which one character of a literal's value is written."""
+    """Where one character of a literal's value is written: from the offset `start` up to but not including `end`."""
 
     start: int
     end: int
@@ -51,10 +54,13 @@ class Unit:
 class Spelled:
     """One literal of a source: says where each character of its value is, and how new characters are written in it.
 
-    Raises Unchangeable if the literal can't be read.
+    `prefix` is in lower case, and `quote` is the quotes that open it, one or three. `raw` and `is_bytes` say of which kind it
+    is. `start` and `end` are the offsets of its content, without the quotes. `units` has one unit for each character of
+    `value`, which is decoded as Latin-1 if it is bytes.
     """
 
     def __init__(self, literal: Literal) -> None:
+        """Takes the literal. Raises Unchangeable if its prefix isn't known, or if its escapes can't be told apart."""
         found = LITERAL.match(literal.text)
         if found is None:
             raise Unchangeable("a literal that can't be read")
@@ -70,7 +76,7 @@ class Spelled:
             raise Unchangeable("a literal whose escapes can't be told apart")
 
     def _units(self, content: str) -> Iterator[Unit]:
-        """Yields the unit of each character of the value; `content` is the text between the quotes."""
+        """Yields the unit of each character of the value, in order; `content` is the text between the quotes."""
         pieces = re.compile(r"\r\n|[\s\S]") if self.raw else ESCAPE
         for it in pieces.finditer(content):
             start, end, text = self.start + it.start(), self.start + it.end(), it[0]
@@ -86,11 +92,15 @@ class Spelled:
                     yield Unit(at, at + 1)
 
     def _known(self, text: str) -> bool:
-        """Whether Python knows an escape in this kind of literal."""
+        """Returns whether Python knows the escape `text` in this kind of literal."""
         return text[1] in "\\'\"abfnrtv01234567x" or not self.is_bytes and text[1] in "NuU"
 
     def written(self, text: str) -> str:
-        """Returns how new characters are written in this literal. Raises Unchangeable if a raw literal can't hold them."""
+        """Returns how the new characters `text` are written in this literal: as they are if it is raw, otherwise escaped.
+
+        Raises Unchangeable if the literal is raw and `text` has its quote or a line end that it can't hold. Nothing else is
+        checked.
+        """
         if self.raw:
             if self.quote[0] in text or "\n" in text and len(self.quote) == 1 or "\r" in text:
                 raise Unchangeable("characters that a raw literal can't hold")
@@ -98,6 +108,7 @@ class Spelled:
         return "".join(self._escaped(it) for it in text)
 
     def _escaped(self, letter: str) -> str:
+        """Returns how one character is written in this literal, which isn't raw."""
         if letter in ("\\", self.quote[0]):
             return "\\" + letter
         if letter == "\n":
@@ -110,10 +121,10 @@ class Spelled:
 
 
 def _changes(old: str, new: str, borders: Sequence[int]) -> List[Tuple[int, int, str]]:
-    """Returns the changes from the old value to the new one: spans of the old value, each with its new text.
+    """Returns the changes from the old value to the new one: (start, end, text), for spans of the old value.
 
-    There is one change if it goes over no line end and no border between literals, otherwise as few characters as possible
-    are changed.
+    `borders` are the positions between the values of the literals. There is one change if it replaces no line end and goes
+    over no border (an empty one if both values are equal), otherwise one for each stretch that `difflib` finds to differ.
     """
     start = len(os.path.commonprefix([old, new]))
     most = min(len(old), len(new)) - start
@@ -128,7 +139,10 @@ def _changes(old: str, new: str, borders: Sequence[int]) -> List[Tuple[int, int,
 
 
 def edits(site: Site, new: Text) -> List[Edit]:
-    """Returns the edits that make the new pattern the value of the site's literals. Raises Unchangeable if there are none."""
+    """Returns the edits that make the new pattern the value of the site's literals: in place, or else as one new literal.
+
+    Raises Unchangeable if neither gives that value.
+    """
     value, wanted = (it if isinstance(it, str) else it.decode("latin-1") for it in (site.value, new))
     try:
         spelled = [Spelled(it) for it in site.literals]
@@ -144,25 +158,33 @@ def edits(site: Site, new: Text) -> List[Edit]:
 
 
 def _in_place(spelled: List[Spelled], value: str, wanted: str) -> List[Edit]:
-    """The edits that change only what differs, each inside one literal. Raises Unchangeable."""
-    borders = [0]
-    for it in spelled:
-        borders.append(borders[-1] + len(it.units))
+    """Returns the edits that change only what differs, each inside one literal.
+
+    `value` is the value of all literals together, `wanted` the new one. Raises Unchangeable if a literal can't hold its new
+    characters.
+    """
+    # (the position in the value at which each literal ends)
+    ends = list(accumulate(len(it.units) for it in spelled))
     found: List[Edit] = []
-    for start, end, text in _changes(value, wanted, borders):
+    for start, end, text in _changes(value, wanted, [0, *ends]):
+        # (the new text goes into the literal with the first character that is replaced; if none is replaced, into the first
+        # literal that reaches up to there)
+        holder = bisect_right(ends, start) if start < end else bisect_left(ends, start)
         for at, literal in enumerate(spelled):
-            low, high = max(start, borders[at]), min(end, borders[at + 1])
-            last = start == borders[at + 1] and (start == end or start == len(value))
-            holds = last or borders[at] <= start < borders[at + 1]
-            if low < high or holds and text:
-                inner = literal.written(text) if holds else ""
-                found.append(_edit(literal, low - borders[at], max(high, low) - borders[at], inner))
-                text = "" if holds else text
+            begin = ends[at] - len(literal.units)
+            low, high = max(start, begin), min(end, ends[at])
+            if at == holder and text:
+                found.append(_edit(literal, low - begin, high - begin, literal.written(text)))
+            elif low < high:
+                found.append(_edit(literal, low - begin, high - begin, ""))
     return found
 
 
 def _edit(literal: Spelled, low: int, high: int, text: str) -> Edit:
-    """The edit that replaces some characters of a literal's value."""
+    """Returns the edit that replaces the characters of a literal's value from `low` up to but not including `high`.
+
+    `text` replaces them, as it is to be written in the source.
+    """
     units = literal.units
     start = units[low].start if low < len(units) else literal.end
     end = units[high - 1].end if high > low else start
@@ -170,7 +192,10 @@ def _edit(literal: Spelled, low: int, high: int, text: str) -> Edit:
 
 
 def _anew(site: Site, new: Text) -> List[Edit]:
-    """The edits that put the whole pattern in place of the first literal, and make the others empty."""
+    """Returns the edits that put the whole pattern in place of the first literal, and make the others empty.
+
+    The new literal is raw with the quotes of the first one if that can hold the pattern, otherwise as `ascii` writes it.
+    """
     found = LITERAL.match(site.literals[0].text)
     quote = found[2] if found else "'"
     text = new if isinstance(new, str) else new.decode("latin-1")
@@ -182,7 +207,7 @@ def _anew(site: Site, new: Text) -> List[Edit]:
 
 
 def _value_after(site: Site, changed: Sequence[Edit]) -> Optional[Text]:
-    """The value of the site's literals after the edits, or None if they are no literals then."""
+    """Returns the value of the site's literals after the edits, or None if they are no str or bytes then."""
     texts: List[str] = []
     for it in site.literals:
         own = [one for one in changed if it.start <= one.start < it.end]
@@ -196,21 +221,26 @@ def _value_after(site: Site, changed: Sequence[Edit]) -> Optional[Text]:
 
 
 def applied(text: str, changed: Sequence[Edit]) -> str:
-    """Returns the text after the edits, which mustn't overlap."""
+    """Returns the text after the edits, which may come in any order but mustn't overlap."""
     for it in sorted(changed, key=lambda one: (one.start, one.end), reverse=True):
         text = text[:it.start] + it.text + text[it.end:]
     return text
 
 
 class Change:
-    """A file, and the cures that were put into it in memory."""
+    """A file, and the cures that were put into it in memory.
+
+    `data` are its bytes, `source` is its text, and `edits` are the changes of that. `expected` has the class that each changed
+    entry is to have. `path`, `within`, `options` and `seconds` are the arguments.
+    """
 
     def __init__(self, path: str, entries: Sequence[Entry], options: Sequence[str], within: str = ".",
                  seconds: float = SECONDS) -> None:
-        """Takes the entries that the report has for the file, the options of `relint check`, and the folder of the file.
+        """Takes the entries that the report has for the file, and the options of `relint check`.
 
-        `seconds` is how long relint may take for the file. Raises Unchangeable if the file can't be read, isn't a regular
-        file, is reached by a link, or changed since the report was made.
+        `within` is the folder below which the file has to be; it and `path` are relative to the current folder. `seconds` is
+        how long relint may take for the file. Raises Unchangeable if the file isn't below the folder, can't be read, isn't a
+        regular file, is reached by a link below the folder, or changed since the report was made, and as `judged` does.
         """
         self.path, self.within, self.seconds = path, within, seconds
         self.options = list(options)
@@ -225,7 +255,10 @@ class Change:
             raise Unchangeable(f"{path} isn't what the report was made of: make the report anew")
 
     def put(self, entry: Entry, site: Site, new: Text, verdict: Verdict) -> None:
-        """Puts a cure in place of the entry's pattern; `verdict` is its class. Raises Unchangeable."""
+        """Puts a cure in place of the entry's pattern, in memory only; `verdict` is its class.
+
+        Raises Unchangeable if it can't be written there.
+        """
         self.edits += edits(site, new)
         self.expected.append((entry, verdict))
 
@@ -234,12 +267,16 @@ class Change:
         return applied(self.source.text, self.edits)
 
     def content(self) -> bytes:
-        """Returns the file's bytes with the cures in it."""
+        """Returns the file's bytes with the cures in it, after a byte order mark if the file has one."""
         front = MARK if self.data.startswith(MARK) else b""
         return front + self.text().encode("utf-8")
 
     def verify(self) -> None:
-        """Has relint judge the changed file. Raises Unchangeable if a changed pattern doesn't have its new class."""
+        """Has relint judge the changed file.
+
+        Raises Unchangeable if a changed pattern doesn't have its new class, or if relint gives no report in time, and
+        ProgramError if relint can't be run.
+        """
         after = {(it.call, number): it for number, it in enumerate(judged(self.content(), self.options, self.seconds))}
         before = judged(self.data, self.options, self.seconds)
         for entry, verdict in self.expected:
@@ -249,7 +286,10 @@ class Change:
                 raise Unchangeable(f"{self.path}: relint doesn't give the changed file the class that the cure has")
 
     def diff(self) -> bytes:
-        """Returns a unified diff in git's format, for `patch -p1` in the folder. Raises Unchangeable."""
+        """Returns a unified diff in git's format, for `patch -p1` in the folder `within`; b"" if nothing is changed.
+
+        Raises Unchangeable if the path can't be named in a diff.
+        """
         old, new = (LINES.findall(it.decode("utf-8")) for it in (self.data, self.content()))
         name = "/".join(names_below(self.path, self.within) or [])
         lines: List[str] = []
@@ -260,7 +300,7 @@ class Change:
     def write(self) -> List[str]:
         """Writes the file, whole or not at all. Returns words for each thing that couldn't be kept, such as its owner.
 
-        Raises Unchangeable if the file changed in the meantime or can't be written.
+        Raises Unchangeable if the file changed since it was read, or can't be written.
         """
         try:
             return replace_file(self.path, self.content(), self.data, self.within)
@@ -269,9 +309,10 @@ class Change:
 
 
 def header_name(name: str) -> str:
-    """Returns a name as git writes it in the headers of a diff: in quotes if a character of it can't be printed.
+    """Returns a name as git reads it in the headers of a diff: in quotes if a character of it is written in another way there.
 
-    Raises Unchangeable if the name can't be encoded, since then it can't be a name in git.
+    A name with spaces that isn't in quotes gets a tab at its end. Raises Unchangeable if the name can't be encoded, since then
+    it can't be a name in git.
     """
     try:
         coded = [it.encode("utf-8", "surrogateescape") for it in name]
@@ -285,20 +326,25 @@ def header_name(name: str) -> str:
 
 
 def _header_letter(letter: str, coded: bytes) -> str:
+    """Returns a character of a name as git reads it in quotes; `coded` are its bytes.
+
+    `"` and `\\` come after a backslash, and a character that can't be seen is written as its bytes in octal, such as `\\012`.
+    """
     if letter in '"\\':
         return "\\" + letter
     return letter if is_seen(letter) else "".join(f"\\{it:03o}" for it in coded)
 
 
 def _key(entry: Entry) -> Tuple[object, ...]:
-    """What has to be the same in an entry of an unchanged file."""
+    """Returns what has to be the same in an entry of a file that didn't change: its place, call, class, limit and cause."""
     return entry.place, entry.call, entry.kind, entry.degree, entry.limit, entry.cause
 
 
 def judged(data: bytes, options: Sequence[str], seconds: float = SECONDS) -> List[Entry]:
     """Returns the entries that relint gives for a source, which is written to a temporary file.
 
-    Raises Unchangeable if relint gives no report, or takes longer than `seconds`.
+    `options` are further words for `relint check`. Raises Unchangeable if that file can't be written, or if
+    relint gives no report or takes longer than `seconds`, and ProgramError if relint can't be run.
     """
     with tempfile.TemporaryDirectory(prefix="relint-mend-") as folder:
         copy = Path(folder, "judged.py")

@@ -1,7 +1,8 @@
 """Copies the layout of a pattern, with every comment, into a pattern that replaces it.
 
-Both patterns are cut into tokens, and the tokens are aligned. Layout that was between two tokens of the old pattern goes to
-their place in the new one. No layout is lost.
+The layout is comments of the form `(?#..)` and, under VERBOSE, blanks and comments after `#`. Both patterns are cut into
+tokens, and the tokens are aligned. Layout that was between two tokens of the old pattern goes to their place in the new one.
+No layout of the old pattern is lost, except that none is copied if VERBOSE is set or cleared for a part of a pattern.
 """
 from __future__ import annotations
 
@@ -17,7 +18,11 @@ SCOPED_VERBOSE = re.compile(rf"\(\?(?=[{INLINE}-]*x)[{INLINE}]*(?:-[{TURNED_OFF}
 
 
 def tokens_of(pattern: str, verbose: bool) -> Tuple[List[str], List[str]]:
-    """Returns the tokens of a pattern, and the layout before each of them and after the last one."""
+    """Returns the tokens of a pattern, and the layout before each of them and after the last one.
+
+    So there is one more piece of layout than there are tokens; a piece is "" if nothing is there. `verbose` says that the
+    pattern is read under VERBOSE.
+    """
     tokens: List[str] = []
     gaps = [""]
     at = 0
@@ -39,7 +44,8 @@ _FORMS = (ESCAPE, CLASS, OPENING, QUANTIFIER, re.compile(r"[\s\S]"))
 def with_layout(old: str, new: str, verbose: bool) -> str:
     """Returns the new pattern with all layout of the old one; `verbose` says that both are read under VERBOSE.
 
-    Returns the new pattern unchanged if one of the two sets VERBOSE for only a part of itself.
+    Layout of the new pattern itself is left out. Returns the new pattern unchanged if one of the two sets or clears VERBOSE
+    for only a part of itself.
     """
     if SCOPED_VERBOSE.search(old) or SCOPED_VERBOSE.search(new):
         return new
@@ -55,13 +61,19 @@ def with_layout(old: str, new: str, verbose: bool) -> str:
 
 
 def _ended(gap: str, goes_on: bool) -> str:
-    """The layout, with a line end added if its last comment would otherwise hide what follows."""
+    """Returns the layout `gap`, with a line end added if a token follows and it seems to end in a comment after `#`.
+
+    That is, if there is a `#` in its last line, and it doesn't end with `)`. `goes_on` says that a token follows.
+    """
     is_open = goes_on and "#" in gap.rpartition("\n")[2] and not gap.rstrip().endswith(")")
     return gap + "\n" if is_open else gap
 
 
 def _places(before: List[str], after: List[str]) -> List[int]:
-    """The place among the new tokens to which the layout at each place among the old tokens goes."""
+    """Returns, for each place between the old tokens, the place between the new tokens to which its layout goes.
+
+    Place number n is before the token number n, from 0; the last place is after the last token.
+    """
     places = [len(after)] * (len(before) + 1)
     for _, start, end, low, high in SequenceMatcher(None, before, after, autojunk=False).get_opcodes():
         for at in range(start, end):
@@ -70,7 +82,10 @@ def _places(before: List[str], after: List[str]) -> List[int]:
 
 
 def _off_quantifier(before: List[str], after: List[str], at: int, to: int) -> int:
-    """The place `to`, or the next one if layout would otherwise come before a quantifier where it didn't before."""
+    """Returns the place `to`, or the next one if layout would come before a quantifier there but didn't before.
+
+    `at` is its place among the old tokens. Layout before a quantifier would come between it and what it repeats.
+    """
     was = at < len(before) and QUANTIFIER.fullmatch(before[at])
     now = to < len(after) and QUANTIFIER.fullmatch(after[to])
     return to + 1 if now and not was else to

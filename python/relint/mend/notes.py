@@ -1,6 +1,7 @@
 r"""Suggests what a person could do if no rule helps, or if the pattern may not be what was meant.
 
-The patterns suggested here don't match the same texts as the original. The caller shows texts on which they differ.
+The patterns suggested here needn't match the same texts as the original. The caller shows texts on which they differ, if any
+are known.
 """
 from __future__ import annotations
 
@@ -9,12 +10,15 @@ from typing import Iterator, List, Optional, Tuple
 
 from . import codes
 from .rules import run_of, with_run
-from .tree import Chars, Concat, Group, Node, Pattern, Repeat, children, walk, with_child
+from .tree import Chars, Choice, Concat, Group, Node, Pattern, Repeat, choice, concat, walk, with_child
 from .write import Unwritable, plain
 
 
 def first_mark(node: Node) -> int:
-    """Returns the mask of the first character of every match, or 0 if the pattern doesn't begin with a character or class."""
+    """Returns the mask of the character or class with which the pattern begins, perhaps inside capturing groups.
+
+    Returns 0 if it begins with anything else, such as a repeat, a choice or a guard, or if it is empty.
+    """
     found = node
     while isinstance(found, (Concat, Group)):
         if isinstance(found, Group):
@@ -27,10 +31,10 @@ def first_mark(node: Node) -> int:
 
 
 def relaxed(pattern: Pattern) -> Optional[str]:
-    """Returns the pattern with the sign that it begins with taken out of its runs, as in `<[^<>]*>` for a tag.
+    """Returns the pattern with the character that it begins with taken out of its endless runs, as `<[^<>]*>` for `<[^>]*>`.
 
-    Returns None if it begins with no single sign, or if no run has it. Letters, digits and blanks are no such signs, since
-    they may well come again.
+    The new pattern is simplified as by `concat` and `choice`. Returns None if the pattern doesn't begin with a single
+    character, if that is a letter, digit, `_` or blank, if nothing changes, or if the new pattern can't be written.
     """
     mark = first_mark(pattern.tree)
     usual = pattern.alphabet.category("w") | pattern.alphabet.category("s")
@@ -44,18 +48,27 @@ def relaxed(pattern: Pattern) -> Optional[str]:
 
 
 def _without(node: Node, mark: int) -> Node:
-    """The node with the mark taken out of each run without a bound that has it and other characters."""
+    """Returns the node with the mask `mark` taken out of each run without an upper bound that has some of it and more.
+
+    The nodes around are simplified as by `concat` and `choice`.
+    """
     if isinstance(node, Repeat) and isinstance(node.body, Chars):
         mask = node.body.mask
         fits = node.endless and mask & mark and mask & ~mark
         return with_run(node, node.least, node.most, mask & ~mark) if fits else node
-    for at, it in enumerate(children(node)):
-        node = with_child(node, at, _without(it, mark))
-    return node
+    if isinstance(node, Concat):
+        return concat(_without(it, mark) for it in node.items)
+    if isinstance(node, Choice):
+        return choice(_without(it, mark) for it in node.branches)
+    return with_child(node, 0, _without(node.body, mark)) if isinstance(node, (Repeat, Group)) else node
 
 
 def with_dots(pattern: Pattern) -> Optional[str]:
-    r"""Returns the pattern with `\.` for each dot after digits that has digits or nothing after it; None if no dot has."""
+    r"""Returns the pattern with `\.` for each dot after digits, if digits or nothing comes after the dot.
+
+    Digits are a part of the same concatenation beside the dot: one class of only digits, repeated or not, perhaps in capturing
+    groups. Nothing is the end of the concatenation. Returns None if there is no dot to change.
+    """
     digits = pattern.alphabet.category("d")
     places: List[int] = []
     for node in walk(pattern.tree):
@@ -71,15 +84,16 @@ def with_dots(pattern: Pattern) -> Optional[str]:
 
 
 def _is_digits(node: Node, digits: int) -> bool:
-    """Whether a node is a run of only digits."""
+    """Returns whether a node is a run of only digits, and not of the empty class; `digits` is the mask of all digits."""
     run = run_of(node)
     return run is not None and run.mask != 0 and run.mask & ~digits == 0
 
 
 def in_code(pattern: Pattern) -> Optional[str]:
-    """Returns what to do in code for a pattern with two runs that share characters, with something before and between them.
+    """Returns what to do in code for a pattern with two endless runs that share characters, as advice in words.
 
-    Returns None for other patterns.
+    The runs are the two that `_two_runs` finds. Returns None if it finds none, or if nothing comes before the first run or
+    between the two.
     """
     found = _two_runs(pattern.tree)
     if found is None:
@@ -96,13 +110,16 @@ def in_code(pattern: Pattern) -> Optional[str]:
 
 
 def _end_mark(run: str, tail: str) -> str:
-    """The character that a run leaves out and that ends the pattern, as `>` ends a tag; "" if there is none."""
+    """Returns the one character that the run leaves out and that ends the pattern, as `>` in `[^>]*>`; "" if there is none.
+
+    `run` is the text of the run, `tail` the text after the second run.
+    """
     found = re.fullmatch(r"\[\^([^\\\]\-^])\][*+]\??", run)
     return found[1] if found and tail == found[1] else ""
 
 
 def _two_runs(tree: Node) -> Optional[Tuple[Tuple[int, int], Tuple[int, int]]]:
-    """The spans of the first two successive runs of the top level that share characters; None if there are none."""
+    """Returns the spans of the first two successive endless runs of the top level that share characters, or None."""
     runs = list(_runs(tree))
     for (mask, span), (other, behind) in zip(runs, runs[1:]):
         if mask & other:
@@ -111,7 +128,7 @@ def _two_runs(tree: Node) -> Optional[Tuple[Tuple[int, int], Tuple[int, int]]]:
 
 
 def _runs(tree: Node) -> Iterator[Tuple[int, Tuple[int, int]]]:
-    """Yields the mask and the span of each run without a bound at the top level."""
+    """Yields the mask and the span of each endless run that is an item of the pattern's own concatenation, if it has one."""
     for it in tree.items if isinstance(tree, Concat) else ():
         run = run_of(it)
         if run is not None and run.endless and it.span is not None:

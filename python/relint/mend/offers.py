@@ -1,7 +1,7 @@
 """Decides, for all tools, what may be offered as a replacement for a pattern, and whether that is a fix or only advice.
 
-A *fix* changes nothing that the code sees, as far as its calls are known: relint proves that the same texts match, and spans
-and groups are compared. Everything else is *advice*, which says what differs.
+A *fix* changes nothing that the code sees, as far as its calls are known: relint proves that the same texts match, and what
+the code sees of spans and groups is compared. Everything else is *advice*, with words on what differs or isn't known.
 """
 from __future__ import annotations
 
@@ -34,10 +34,11 @@ PYTHON_2 = re.compile(
 
 @dataclass(frozen=True)
 class Offer:
-    """A replacement for a pattern. `kind` is fix or advice; `literal` is the text of its literals in the source.
+    """A replacement for a pattern, and what is known of it.
 
-    `words` say what is proved and checked, and what differs. `changes` says what was changed, in a sentence or two. `tier` is
-    "a" if the calls see the same spans and groups.
+    `kind` is "fix" or "advice". `pattern` is the new pattern, `literal` the text of its literals in the source, and `verdict`
+    its class. `words` say what is proved and checked, and what differs. `changes` says what was changed, in a few sentences,
+    or is "". `tier` is "a", "b" or "c", as for a cure.
     """
 
     kind: str
@@ -56,8 +57,9 @@ class Offer:
 def fix_or_advice(how: How, judged: Judgement) -> str:
     """Returns FIX if code that calls the pattern in this way can't notice the replacement, otherwise ADVICE.
 
-    It is advice if the code reads the pattern itself, or may give a position and the judgement doesn't cover that. Otherwise
-    it is a fix in tier a, in tier b if the code sees no groups, and in every tier under `how.only_truth()`.
+    It is advice if the code reads the pattern itself, or if it may give a position and the judgement doesn't cover that.
+    Otherwise it is a fix in tier a, in tier b if the code sees no groups, and in every tier if the code sees only
+    whether there is a match (`how.only_truth()`).
     """
     if how.is_read or how.position and not judged.position:
         return ADVICE
@@ -66,7 +68,10 @@ def fix_or_advice(how: How, judged: Judgement) -> str:
 
 
 def reason_of(how: How, judged: Judgement) -> str:
-    """Returns why a pattern is a fix or advice, or "" if its tier explains that already."""
+    """Returns, in words, what the code does that makes the offer a fix or advice.
+
+    Returns "" if there is nothing to add: for a fix of tier a, and for advice if the code doesn't read the pattern itself.
+    """
     if how.is_read:
         return "your code reads the pattern's text, its flags or its groups"
     if fix_or_advice(how, judged) == ADVICE or judged.tier == "a":
@@ -76,9 +81,10 @@ def reason_of(how: How, judged: Judgement) -> str:
 
 
 def literal_of(source: Source, site: Site, pattern: Text) -> str:
-    """Returns the source of a site's literals with another pattern in them; prefixes, quotes and layout stay.
+    """Returns the text of a site's literals with another pattern in them, changed by `edits`; what is between them stays.
 
-    If the literals can't be changed in place, returns one new literal of the pattern.
+    The text goes from the start of the first literal to the end of the last one. If there are no such edits, returns one new
+    literal of the pattern.
     """
     first, last = site.literals[0].start, site.literals[-1].end
     try:
@@ -89,7 +95,7 @@ def literal_of(source: Source, site: Site, pattern: Text) -> str:
 
 
 def offered(source: Source, site: Site, how: How, cures: Sequence[Cure]) -> List[Offer]:
-    """Returns the cures of a pattern as offers: fixes before advice, and within each kind the best class first."""
+    """Returns the cures of a pattern as offers: fixes before advice, and within each kind the lowest class first."""
     found = [offer_of(source, site, how, it) for it in cures]
     return sorted(found, key=lambda it: (it.kind != FIX, order(it.verdict)))
 
@@ -97,7 +103,8 @@ def offered(source: Source, site: Site, how: How, cures: Sequence[Cure]) -> List
 def offers_for(found: Finding, mend: bool) -> List[Offer]:
     """Returns the offers for a finding, fixes first: relint's suggestion and, with `mend`, the cures that a search finds.
 
-    Returns none if the source, the pattern or its flags aren't known.
+    A cure with the pattern of the suggestion is left out. Returns [] if the source, the pattern or its flags aren't known.
+    Raises ProgramError if relint can't be run.
     """
     if found.source is None or found.site is None or found.site.flags is None:
         return []
@@ -113,10 +120,10 @@ def offers_for(found: Finding, mend: bool) -> List[Offer]:
 
 
 def suggested(asker: Asker, source: Source, site: Site, how: How, mode: str, entry: Entry) -> Optional[Offer]:
-    """Returns relint's own suggestion for an entry as an offer, or None if it has none or none that holds for the calls.
+    """Returns relint's own suggestion for an entry as an offer, with the layout of the original.
 
-    relint proves that the suggestion matches the same texts in the mode of the entry. Here relint is asked again whether it
-    does in the modes of all calls.
+    `mode` is the mode of the entry. Returns None if there is no suggestion, if relint doesn't prove that it matches the same
+    texts in `mode` and in the modes of all calls, or if relint gives it no class. Raises ProgramError if relint can't be run.
     """
     if entry.suggest is None or isinstance(entry.suggest, bytes) != isinstance(site.value, bytes):
         return None
@@ -129,7 +136,10 @@ def suggested(asker: Asker, source: Source, site: Site, how: How, mode: str, ent
 
 
 def _laid_out(old: Text, new: Text, flags: int) -> Text:
-    """The new pattern with the layout of the old one, or unchanged if one of them is bytes or the old one can't be read."""
+    """Returns the new pattern with the layout of the old one.
+
+    Returns it unchanged if one of the two is bytes, or if the old one can't be read.
+    """
     if isinstance(old, bytes) or isinstance(new, bytes):
         return new
     try:
@@ -139,7 +149,7 @@ def _laid_out(old: Text, new: Text, flags: int) -> Text:
 
 
 def offer_of(source: Source, site: Site, how: How, cure: Cure) -> Offer:
-    """Returns a cure as an offer for the calls of a pattern.
+    """Returns a cure as an offer for the calls of a pattern, whose literals are at `site`.
 
     It is only advice if it needs Python 3 and the source still provides for Python 2.
     """
@@ -152,11 +162,11 @@ def offer_of(source: Source, site: Site, how: How, cure: Cure) -> Offer:
 
 
 def needs_python_3(old: Text, new: Text) -> bool:
-    """Returns whether the new pattern sets flags for only a part of itself, as `(?m:^)` does, and the old one doesn't."""
+    """Returns whether the new pattern contains the opening of a group with flags, such as `(?m:`, and the old one doesn't."""
     old, new = (it.decode("latin-1") if isinstance(it, bytes) else it for it in (old, new))
     return bool(SCOPED.search(new)) and not SCOPED.search(old)
 
 
 def is_for_python_2(source: str) -> bool:
-    """Returns whether a source imports something that only code for Python 2 needs."""
+    """Returns whether a line of a source imports `six`, or first a feature of `__future__` that Python 3 always has."""
     return bool(PYTHON_2.search(source))

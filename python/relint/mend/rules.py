@@ -1,8 +1,11 @@
-r"""Rules of thumb that propose replacements for a pattern.
+"""Rules of thumb that propose replacements for a pattern.
 
 No rule is trusted: a proposal counts only after relint and the comparison of spans have judged it. A rule takes a node and the
-alphabet of its pattern, and yields nodes that might replace it. Each rule has an example, which a test tries. The docstring of
-a rule says what it applies to and, after the colon, what it proposes instead.
+alphabet of its pattern, and yields nodes that might replace the node, or nothing if it doesn't apply. Each rule has an
+example, which a test tries. The docstring of a rule says what it applies to and, after the colon, what it proposes instead.
+
+A *loop* is a repeat without an upper bound. A *run* is a repeated character or class, such as `a*` or `[ab]{2,}`; a run that
+is a loop is an endless run. *Blanks* stand for any run here. A *class* is a set of characters; its mask is over the alphabet.
 """
 from __future__ import annotations
 
@@ -12,7 +15,7 @@ from typing import Callable, Iterator, List, Optional, Tuple
 
 from .alphabet import Alphabet
 from .tree import (
-    Chars, Choice, Concat, EMPTY, Group, Guard, NO_BOUND, Node, Repeat, children, choice, concat, optional, repeat, star,
+    Chars, Choice, Concat, EMPTY, Group, Guard, NO_BOUND, Node, Repeat, choice, concat, optional, repeat, star,
     with_child,
 )
 
@@ -21,9 +24,10 @@ Rewrite = Callable[[Node, Alphabet], Iterator[Node]]
 
 @dataclass(frozen=True)
 class Rule:
-    """A rule with its name. Proposals of lower `cost` come first. `example` is a pattern, and what the rule proposes for it.
+    """A rule with its name. `rewrite` is its function. Proposals of lower `cost` are tried first.
 
-    `says` is a sentence for users: what the rule changes, and why this neither loses nor adds a match where the rule fits.
+    `example` is a pattern, and a pattern that the rule proposes for it. `says` is a sentence for users: what the rule changes,
+    and why this neither loses nor adds a match where the rule fits.
     """
 
     name: str
@@ -35,7 +39,10 @@ class Rule:
 
 @dataclass(frozen=True)
 class Run:
-    """A repeated class of characters."""
+    """A class of characters that is repeated from `least` to `most` times; `most` is NO_BOUND if there is no bound.
+
+    `mask` is the class. If `greedy`, more characters are tried before fewer.
+    """
 
     least: int
     most: int
@@ -44,7 +51,7 @@ class Run:
 
     @property
     def endless(self) -> bool:
-        """Whether the number of repetitions has no bound."""
+        """Whether the number of characters has no upper bound."""
         return self.most == NO_BOUND
 
 
@@ -52,21 +59,24 @@ class Run:
 
 
 def core(node: Node) -> Node:
-    """Returns the node without the capturing groups around it."""
+    """Returns the node without the capturing groups directly around it."""
     while isinstance(node, Group):
         node = node.body
     return node
 
 
 def recored(node: Node, new: Node) -> Node:
-    """Returns the node with its core replaced; the groups around it are kept."""
+    """Returns the node with its core replaced by `new`; the capturing groups directly around it are kept."""
     if isinstance(node, Group):
         return Group(node.number, node.name, recored(node.body, new))
     return new
 
 
 def run_of(node: Node) -> Optional[Run]:
-    """Returns the run that the node is, perhaps inside groups, or None if it isn't one. One character is a run of one."""
+    """Returns the run that the node is, perhaps in capturing groups, or None if it isn't one.
+
+    A single character or class is a greedy run of exactly one.
+    """
     found = core(node)
     if isinstance(found, Chars):
         return Run(1, 1, found.mask, True)
@@ -75,22 +85,20 @@ def run_of(node: Node) -> Optional[Run]:
     return None
 
 
-def chars(mask: int) -> Chars:
-    """Returns a node for one character that is in the mask."""
-    return Chars(mask)
-
-
 def with_run(node: Node, least: int, most: int, mask: int) -> Node:
-    """Returns a run with other bounds and another class; the groups around it are kept."""
+    """Returns the run `node` with other bounds and another mask; the capturing groups around it are kept.
+
+    It is lazy if the run was. The node has to be a run, as for `run_of`.
+    """
     found = core(node)
     greedy = found.greedy if isinstance(found, Repeat) else True
     leaf = found.body if isinstance(found, Repeat) else found
-    body = leaf if isinstance(leaf, Chars) and leaf.mask == mask else chars(mask)
+    body = leaf if isinstance(leaf, Chars) and leaf.mask == mask else Chars(mask)
     return recored(node, repeat(least, most, greedy, body))
 
 
 def stripped(node: Node) -> Node:
-    """Returns the node without capturing groups."""
+    """Returns the node without any capturing groups; what was in them stays."""
     if isinstance(node, Group):
         return stripped(node.body)
     if isinstance(node, Concat):
@@ -103,17 +111,23 @@ def stripped(node: Node) -> Node:
 
 
 def dead_groups(node: Node) -> List[Node]:
-    """Returns groups that never match, with the numbers and names of the node's groups."""
-    return [optional(Group(number, name, chars(0))) for number, name in node.facts.groups]
+    """Returns a node for each group in `node`: an optional group of the same number and name, which can never match.
+
+    They stand in for a part that is left out, since a cure has to have the same groups.
+    """
+    return [optional(Group(number, name, Chars(0))) for number, name in node.facts.groups]
 
 
 def items_of(node: Node) -> Tuple[Node, ...]:
-    """Returns the parts of a concatenation, or the node alone."""
+    """Returns the parts of a concatenation; any other node is its own only part."""
     return node.items if isinstance(node, Concat) else (node,)
 
 
 def edge(node: Node, at: int) -> Optional[Repeat]:
-    """Returns the run of characters that the node begins with (`at` 0) or ends with (`at` -1), or None."""
+    """Returns the run with which the node begins (`at` 0) or ends (`at` -1), perhaps inside capturing groups.
+
+    Returns None if there is none. A character or class without a quantifier doesn't count here.
+    """
     if isinstance(node, Group):
         return edge(node.body, at)
     if isinstance(node, Concat) and node.items:
@@ -122,7 +136,7 @@ def edge(node: Node, at: int) -> Optional[Repeat]:
 
 
 def with_edge(node: Node, at: int, new: Node) -> Node:
-    """Returns the node with the run that it begins (`at` 0) or ends (`at` -1) with replaced."""
+    """Returns the node with the run that `edge` returns for it replaced by `new`. There has to be such a run."""
     if isinstance(node, Group):
         return Group(node.number, node.name, with_edge(node.body, at, new))
     if isinstance(node, Concat) and node.items:
@@ -135,7 +149,10 @@ def with_edge(node: Node, at: int, new: Node) -> Node:
 
 
 def close(node: Node, alphabet: Alphabet) -> Iterator[Node]:
-    """A loop whose body repeats already: one round."""
+    """A loop whose body isn't just a class: one round, optional if the loop may have no round.
+
+    If the loop has to have more than one round, it also proposes exactly as many rounds as it needs.
+    """
     if isinstance(node, Repeat) and node.endless and not isinstance(node.body, Chars):
         yield repeat(min(node.least, 1), 1, node.greedy, node.body)
         if node.least > 1:
@@ -143,7 +160,10 @@ def close(node: Node, alphabet: Alphabet) -> Iterator[Node]:
 
 
 def nest(node: Node, alphabet: Alphabet) -> Iterator[Node]:
-    """A loop directly inside a loop: one of the two."""
+    """A loop directly over a repeat: one loop over what is inside both, with capturing groups around or inside this loop.
+
+    If the outer loop may be empty, it also proposes that loop over a repeat of at least one.
+    """
     if not isinstance(node, Repeat) or not node.endless:
         return
     inner = core(node.body)
@@ -152,12 +172,12 @@ def nest(node: Node, alphabet: Alphabet) -> Iterator[Node]:
     least = node.least * inner.least
     yield recored(node.body, repeat(least, NO_BOUND, node.greedy and inner.greedy, inner.body))
     yield repeat(least, NO_BOUND, node.greedy, recored(node.body, inner.body))
-    if least == 0 and node.least == 0:
+    if node.least == 0:
         yield repeat(0, NO_BOUND, node.greedy, recored(node.body, repeat(1, inner.most, inner.greedy, inner.body)))
 
 
 def nest_choice(node: Node, alphabet: Alphabet) -> Iterator[Node]:
-    """A loop over branches that are loops themselves: a loop over branches without these inner loops."""
+    """A loop over branches, some of which are loops: a loop over branches, with the body of each such loop instead of it."""
     if not isinstance(node, Repeat) or not node.endless:
         return
     inner = core(node.body)
@@ -173,7 +193,7 @@ def nest_choice(node: Node, alphabet: Alphabet) -> Iterator[Node]:
 
 
 def shuffle(node: Node, alphabet: Alphabet) -> Iterator[Node]:
-    """A loop over parts that may all be missing: a loop over a choice of the parts."""
+    """A loop over parts that may all be missing: a loop over a choice of the parts, without their own quantifiers."""
     if not isinstance(node, Repeat) or not node.endless:
         return
     inner = core(node.body)
@@ -187,7 +207,10 @@ def shuffle(node: Node, alphabet: Alphabet) -> Iterator[Node]:
 
 
 def hoist(node: Node, alphabet: Alphabet) -> Iterator[Node]:
-    """A loop whose body begins or ends with a part that may be missing: that part only once, beside the loop."""
+    """A loop whose body begins or ends with a part that may be empty and has no groups: that part only once, beside the loop.
+
+    It also proposes this with at least one round, and optional as a whole.
+    """
     if not isinstance(node, Repeat) or not node.endless:
         return
     parts = items_of(core(node.body))
@@ -204,7 +227,10 @@ def hoist(node: Node, alphabet: Alphabet) -> Iterator[Node]:
 
 
 def unroll(node: Node, alphabet: Alphabet) -> Iterator[Node]:
-    """A loop over an item and an optional separator: the separator only between items, and optional at the end."""
+    """A loop over an item and an optional separator: items with the separator between them, and optional at the end.
+
+    The whole is optional if the loop may have no round. A loop with groups, or of more than one round at least, is left out.
+    """
     if not isinstance(node, Repeat) or not node.endless or node.least > 1 or node.facts.groups:
         return
     parts = items_of(node.body)
@@ -218,7 +244,7 @@ def unroll(node: Node, alphabet: Alphabet) -> Iterator[Node]:
 
 
 def one_piece(node: Node, alphabet: Alphabet) -> Iterator[Node]:
-    """A loop inside the body of a loop: at most one round of the inner loop in each round of the outer one."""
+    """A loop with a loop as one part of its body: at most one round of the inner loop in each round of the outer one."""
     if not isinstance(node, Repeat) or not node.endless:
         return
     inner = core(node.body)
@@ -233,13 +259,17 @@ def one_piece(node: Node, alphabet: Alphabet) -> Iterator[Node]:
 
 
 def fill(node: Node, alphabet: Alphabet) -> Iterator[Node]:
-    """A run of characters that may be empty: the same run with at least one character."""
+    """A run that may be empty: the same run with at least one character."""
     if isinstance(node, Repeat) and node.least == 0 and isinstance(node.body, Chars):
         yield repeat(1, node.most, node.greedy, node.body)
 
 
 def rotate(node: Node, alphabet: Alphabet) -> Iterator[Node]:
-    """A loop whose body begins and ends with runs of the same class: the two runs between rounds joined to one."""
+    """A loop whose body begins and ends with runs of the same class, with more between: two runs between rounds become one.
+
+    If there are groups in the loop, it proposes that for all rounds except the last one, and also with groups that never
+    match.
+    """
     if not isinstance(node, Repeat) or not node.endless or node.least > 1:
         return
     parts = [stripped(it) for it in items_of(core(node.body))]
@@ -249,7 +279,7 @@ def rotate(node: Node, alphabet: Alphabet) -> Iterator[Node]:
     if first is None or last is None or first.mask != last.mask or len(parts) == 2:
         return
     most = NO_BOUND if NO_BOUND in (first.most, last.most) else first.most + last.most
-    seam = repeat(first.least + last.least, most, True, chars(first.mask))
+    seam = repeat(first.least + last.least, most, True, Chars(first.mask))
     whole = concat([parts[0], *parts[1:-1], star(concat([seam, *parts[1:-1]]), node.greedy), parts[-1]])
     if not node.facts.groups:
         yield optional(whole, node.greedy) if node.least == 0 else whole
@@ -262,7 +292,11 @@ def rotate(node: Node, alphabet: Alphabet) -> Iterator[Node]:
 
 
 def last_round(node: Node, alphabet: Alphabet) -> Iterator[Node]:
-    """A loop with groups in it: rounds without groups, then the last round with them."""
+    """A loop with capturing groups in it: rounds without groups, then the last round with them.
+
+    For each repeat of least 0 beside other parts of the body, it also proposes that the rounds before the last one have it at
+    least once.
+    """
     if not isinstance(node, Repeat) or not node.endless or node.least > 1 or not node.facts.groups:
         return
     bodies = [stripped(node.body)]
@@ -277,7 +311,11 @@ def last_round(node: Node, alphabet: Alphabet) -> Iterator[Node]:
 
 
 def fallback(node: Node, alphabet: Alphabet) -> Iterator[Node]:
-    r"""A loop over escaped and other characters, in which the escaping one may be alone: it may be alone only at the end."""
+    r"""A greedy loop over escapes and other characters, as `(?:\\.|[^"])*`, where the escaping character may also be alone.
+
+    It proposes that the escaping character may be alone only at the end. It also proposes that it may be alone anywhere, and
+    that it then takes with it only an escaped character that isn't in the class of the other characters.
+    """
     if not isinstance(node, Repeat) or not node.endless or not node.greedy:
         return
     inner = core(node.body)
@@ -286,20 +324,25 @@ def fallback(node: Node, alphabet: Alphabet) -> Iterator[Node]:
     for sign, pairs, others, rest in _escapes(inner):
         alone = others & ~sign
         second = pairs | alone
-        tail = optional(chars(sign)) if pairs & sign else star(chars(sign))
-        head: Node = chars(sign) if pairs & sign else repeat(1, NO_BOUND, True, chars(sign))
-        body = choice([concat([head, chars(second)]), *rest, chars(alone)])
+        tail = optional(Chars(sign)) if pairs & sign else star(Chars(sign))
+        head: Node = Chars(sign) if pairs & sign else repeat(1, NO_BOUND, True, Chars(sign))
+        body = choice([concat([head, Chars(second)]), *rest, Chars(alone)])
         if alone:
             yield concat([star(recored(node.body, body)), tail])
         # (or it may be alone anywhere, and takes along the characters that no other branch matches)
         odd = pairs & ~others
-        loose = choice([concat([chars(sign), optional(chars(odd))]), *rest, *([chars(alone)] if alone else [])])
+        loose = choice([concat([Chars(sign), optional(Chars(odd))]), *rest, *([Chars(alone)] if alone else [])])
         if odd and alone:
             yield repeat(node.least, NO_BOUND, True, recored(node.body, loose))
 
 
 def _escapes(node: Choice) -> Iterator[Tuple[int, int, int, List[Node]]]:
-    """Yields the mask of an escaping character, of what it escapes, of the other characters, and the remaining branches."""
+    """Yields, for each escaping character of a choice, its mask, what it escapes, the other characters, and the rest.
+
+    The other characters are the one branch of the choice that is a single class; it has to contain the escaping character.
+    What it escapes is the union of the second classes in branches of two classes that begin with the escaping character. The
+    rest is all other branches. It yields nothing if the choice doesn't have this form.
+    """
     heads = [it.items[0] for it in node.branches if isinstance(it, Concat) and it.items]
     firsts = {it.mask for it in heads if isinstance(it, Chars)}
     others = [it for it in node.branches if isinstance(it, Chars)]
@@ -320,7 +363,7 @@ def _escapes(node: Choice) -> Iterator[Tuple[int, int, int, List[Node]]]:
 
 
 def disjoint(node: Node, alphabet: Alphabet) -> Iterator[Node]:
-    """A class in a choice: the class without the characters that another branch begins with."""
+    """A run among the branches of a choice: the run without the characters with which another branch begins."""
     if not isinstance(node, Choice):
         return
     for at, it in enumerate(node.branches):
@@ -334,7 +377,7 @@ def disjoint(node: Node, alphabet: Alphabet) -> Iterator[Node]:
 
 
 def prefix(node: Node, alphabet: Alphabet) -> Iterator[Node]:
-    """A branch that is the beginning of another one: one branch, in which the rest of the longer one is optional."""
+    """A branch without groups that begins another one: one branch, in which the rest of the longer one is optional."""
     if not isinstance(node, Choice):
         return
     for short in node.branches:
@@ -349,7 +392,7 @@ def prefix(node: Node, alphabet: Alphabet) -> Iterator[Node]:
 
 
 def drop_branch(node: Node, alphabet: Alphabet) -> Iterator[Node]:
-    """A loop over branches: the loop without one of the branches, which the others may match together."""
+    """A loop over branches: the loop without one of the branches, if this has no capturing groups."""
     if not isinstance(node, Repeat) or not node.endless:
         return
     inner = core(node.body)
@@ -365,20 +408,23 @@ def drop_branch(node: Node, alphabet: Alphabet) -> Iterator[Node]:
 
 
 def _pairs(node: Node) -> Iterator[Tuple[int, Node, Node]]:
-    """Yields each two neighbours in a concatenation, with the position of the first."""
+    """Yields each two neighbours in a concatenation, after the position of the first of them; nothing for other nodes."""
     if isinstance(node, Concat):
         for at in range(len(node.items) - 1):
             yield at, node.items[at], node.items[at + 1]
 
 
 def _put(node: Node, start: int, end: int, new: List[Node]) -> Node:
-    """Returns the node with its parts from `start` up to `end` replaced by the new ones."""
+    """Returns the node with its parts from number `start` up to but not including number `end` replaced by the parts `new`."""
     items = items_of(node)
     return concat([*items[:start], *new, *items[end:]])
 
 
 def absorb(node: Node, alphabet: Alphabet) -> Iterator[Node]:
-    """Two neighbouring runs, one with a class that holds the other's: the narrow run no longer repeats."""
+    """Two neighbouring endless runs, one of which has all characters of the other: the other no longer repeats.
+
+    It is as short as it may be, and is left out if it may be empty.
+    """
     for at, left, right in _pairs(node):
         one, other = run_of(left), run_of(right)
         if one is None or other is None or not one.endless or not other.endless:
@@ -392,7 +438,11 @@ def absorb(node: Node, alphabet: Alphabet) -> Iterator[Node]:
 
 
 def cede(node: Node, alphabet: Alphabet) -> Iterator[Node]:
-    """A run after a greedy run: it begins with a character that the first can't match, or is a single character."""
+    """An endless run of least 0 or 1, after an endless greedy run that shares characters: it begins with one of its own.
+
+    That is a character that the run before it can't match. Otherwise it is as short as it may be: empty, or one shared
+    character.
+    """
     for at, left, right in _pairs(node):
         last, first = edge(left, -1), edge(right, 0)
         if last is None or first is None or not last.endless or not last.greedy:
@@ -403,19 +453,22 @@ def cede(node: Node, alphabet: Alphabet) -> Iterator[Node]:
 
 
 def _ceded(found: Repeat, taken: int) -> Optional[Node]:
-    """What `cede` puts in place of a run after a greedy run of the mask `taken`; None if the rule doesn't apply."""
+    """Returns what `cede` puts in place of a run after a greedy run of the mask `taken`; None if the rule doesn't apply."""
     mask = found.body.facts.mask
     if not found.endless or found.least > 1 or not mask & taken:
         return None
     own, common = mask & ~taken, mask & taken
-    begun = concat([chars(own), star(found.body, found.greedy)]) if own else None
+    begun = concat([Chars(own), star(found.body, found.greedy)]) if own else None
     if found.least == 0:
         return optional(begun, found.greedy) if begun else EMPTY
-    return choice([begun, chars(common)]) if begun else chars(common)
+    return choice([begun, Chars(common)]) if begun else Chars(common)
 
 
 def cede_lazy(node: Node, alphabet: Alphabet) -> Iterator[Node]:
-    """A lazy run before another run: it doesn't end with a character that the second can match."""
+    """An endless lazy run of least 0 or 1, before an endless run that shares characters: it ends with one of its own.
+
+    That is a character that the second can't match. Otherwise it is as short as it may be: empty, or one character.
+    """
     for at, left, right in _pairs(node):
         last, first = edge(left, -1), edge(right, 0)
         if last is None or first is None or last.greedy or not last.endless or last.least > 1 or not first.endless:
@@ -425,29 +478,32 @@ def cede_lazy(node: Node, alphabet: Alphabet) -> Iterator[Node]:
 
 
 def _ended(found: Repeat, taken: int) -> Node:
-    """What `cede_lazy` puts in place of a lazy run before a run of the mask `taken`."""
+    """Returns what `cede_lazy` puts in place of the lazy run `found` before a run of the mask `taken`.
+
+    Its first character, if it has to have one, may be any.
+    """
     own = found.body.facts.mask & ~taken
-    ended = optional(concat([star(found.body, False), chars(own)]), False) if own else EMPTY
+    ended = optional(concat([star(found.body, False), Chars(own)]), False) if own else EMPTY
     return ended if found.least == 0 else concat([found.body, ended])
 
 
 def split_runs(node: Node, alphabet: Alphabet) -> Iterator[Node]:
-    """Two neighbouring runs that share characters: one of them ends or begins with a character that only it can match."""
+    """Two neighbouring endless runs that share characters: one ends or begins with a character that only it can match."""
     for at, left, right in _pairs(node):
         one, other = run_of(left), run_of(right)
         if one is None or other is None or not one.endless or not other.endless or not one.mask & other.mask:
             continue
         own = one.mask & ~other.mask
         if not left.facts.groups and own and one.least == 0:
-            yield _put(node, at, at + 1, [optional(concat([with_run(left, 0, NO_BOUND, one.mask), chars(own)]))])
+            yield _put(node, at, at + 1, [optional(concat([with_run(left, 0, NO_BOUND, one.mask), Chars(own)]))])
         own = other.mask & ~one.mask
         if not right.facts.groups and own and other.least == 1:
-            rest = optional(concat([chars(own), with_run(right, 0, NO_BOUND, other.mask)]))
-            yield _put(node, at + 1, at + 2, [optional(chars(one.mask & other.mask)), rest])
+            rest = optional(concat([Chars(own), with_run(right, 0, NO_BOUND, other.mask)]))
+            yield _put(node, at + 1, at + 2, [optional(Chars(one.mask & other.mask)), rest])
 
 
 def exclude(node: Node, alphabet: Alphabet) -> Iterator[Node]:
-    """Two neighbouring runs that share characters: one of them without the characters of the other."""
+    """Two neighbouring runs that share characters: one of them, which is endless, without the characters of the other."""
     for at, left, right in _pairs(node):
         one, other = run_of(left), run_of(right)
         if one is None or other is None or not one.mask & other.mask:
@@ -459,19 +515,22 @@ def exclude(node: Node, alphabet: Alphabet) -> Iterator[Node]:
 
 
 def exclude_next(node: Node, alphabet: Alphabet) -> Iterator[Node]:
-    """A run before a part that may begin with some of its characters: the run without these."""
+    """An endless run before a part that isn't a run and may begin with some of its characters: the run without these."""
     for at, left, right in _pairs(node):
         last, first = edge(left, -1), right.facts.first
         if last is None or not last.endless or run_of(right) is not None:
             continue
         mask = last.body.facts.mask
         if mask & first and mask & ~first:
-            new = repeat(last.least, last.most, last.greedy, chars(mask & ~first))
+            new = repeat(last.least, last.most, last.greedy, Chars(mask & ~first))
             yield _put(node, at, at + 1, [with_edge(left, -1, new)])
 
 
 def after_last(node: Node, alphabet: Alphabet) -> Iterator[Node]:
-    """A greedy run, one of its characters, and another run: the second run without that character."""
+    """An endless greedy run, one character or class within it, and another endless run: the second without those characters.
+
+    It also proposes that the second run may have one of them once, at its end. The second run has to have least 0 or 1.
+    """
     if not isinstance(node, Concat):
         return
     for at in range(len(node.items) - 2):
@@ -482,8 +541,8 @@ def after_last(node: Node, alphabet: Alphabet) -> Iterator[Node]:
         if (sign.least, sign.most) != (1, 1) or not common or sign.mask & ~before.body.facts.mask or run.least > 1:
             continue
         own = run.body.facts.mask & ~common
-        plain = repeat(run.least, NO_BOUND, run.greedy, chars(own))
-        ended = choice([concat([repeat(1, NO_BOUND, run.greedy, chars(own)), optional(chars(common))]), chars(common)])
+        plain = repeat(run.least, NO_BOUND, run.greedy, Chars(own))
+        ended = choice([concat([repeat(1, NO_BOUND, run.greedy, Chars(own)), optional(Chars(common))]), Chars(common)])
         for new in (plain, ended) if own else ():
             yield _put(node, at + 2, at + 3, [with_edge(node.items[at + 2], 0, new)])
 
@@ -509,7 +568,7 @@ def option_pairs(node: Node, alphabet: Alphabet) -> Iterator[Node]:
 
 
 def _blanks(node: Optional[Node]) -> Optional[Run]:
-    """Returns the run that a part is, or that an optional part ends with; None if there is none."""
+    """Returns the run that a part is, or with which an optional part ends; None if there is none, or if `node` is None."""
     if node is None:
         return None
     run = run_of(node)
@@ -519,7 +578,10 @@ def _blanks(node: Optional[Node]) -> Optional[Run]:
 
 
 def _option_pair(before: Optional[Node], pair: List[Node]) -> Optional[Node]:
-    """What `option_pairs` puts in place of an optional part and blanks after `before`; None if the rule doesn't apply."""
+    """Returns what `option_pairs` puts in place of `pair`, an optional part and blanks, after the part `before`.
+
+    Returns None if the rule doesn't apply.
+    """
     blanks = _blanks(before)
     if blanks is None or len(pair) < 2 or not blanks.endless or not isinstance(pair[0], Repeat):
         return None
@@ -532,7 +594,7 @@ def _option_pair(before: Optional[Node], pair: List[Node]) -> Optional[Node]:
 
 
 def option_pair(node: Node, alphabet: Alphabet) -> Iterator[Node]:
-    """Blanks, an optional part, blanks: the blanks on one side inside the part."""
+    """Blanks, an optional part, blanks: the blanks on one side inside the part. Changes one such part."""
     if not isinstance(node, Concat):
         return
     for at in range(len(node.items) - 2):
@@ -548,7 +610,10 @@ def option_pair(node: Node, alphabet: Alphabet) -> Iterator[Node]:
 
 
 def with_blanks(node: Node, alphabet: Alphabet) -> Iterator[Node]:
-    """Blanks before an optional part: the blanks inside the part."""
+    """Blanks that may be empty, before an optional part that isn't a run: the blanks inside the part, in each round or once.
+
+    It also proposes at least one of the blanks and then the optional part, all of it optional.
+    """
     for at, left, right in _pairs(node):
         run = run_of(left)
         if run is None or run.least != 0 or left.facts.groups or not isinstance(right, Repeat) or right.least != 0:
@@ -621,9 +686,9 @@ RULES: Tuple[Rule, ...] = (
 
 
 def line_anchor(tree: Node, alphabet: Alphabet) -> Iterator[Node]:
-    """A pattern that begins with a run of all characters but newlines, of all characters, or of word characters.
+    """A pattern that begins with an endless run of all characters but newlines, of all characters, or of word characters.
 
-    Proposes a search that begins only at the start of a line, of the text, or at a word boundary.
+    It proposes a search that begins only at the start of a line, of the text, or at a word boundary.
     """
     mask = _lead(tree)
     if mask == alphabet.full & ~alphabet.newline:
@@ -635,7 +700,7 @@ def line_anchor(tree: Node, alphabet: Alphabet) -> Iterator[Node]:
 
 
 def _lead(node: Node) -> Optional[int]:
-    """The mask of the run without a bound that the node begins with, or None if it begins otherwise."""
+    """Returns the mask of the endless run with which the node begins, or None if it begins otherwise."""
     if isinstance(node, Concat) and node.items:
         return _lead(node.items[0])
     if isinstance(node, Group):
@@ -647,11 +712,3 @@ def _lead(node: Node) -> Optional[int]:
 
 LINE_ANCHOR = Rule("line-anchor", 0.5, line_anchor, (r".*x", r"(?m:^).*x"),
                    "The search begins only where the first run could begin, since from there the run takes all that follows.")
-
-
-def places(node: Node, change: Callable[[Node], Iterator[Node]]) -> Iterator[Node]:
-    """Yields the whole tree with one of its nodes replaced by what `change` yields for it, outer nodes first."""
-    yield from change(node)
-    for at, it in enumerate(children(node)):
-        for new in places(it, change):
-            yield with_child(node, at, new)

@@ -1,6 +1,6 @@
 """Finds out whether code sees the same spans and groups if one pattern is replaced by another.
 
-All tools ask this by `same_spans`, and say how the code calls the pattern. The program relint-spans is asked first, and its
+`same_spans` answers this for the way in which the code calls the pattern. The program relint-spans is asked first, and its
 answers are proved. If it has no answer, the check in spans.py is used, which is tested but not proved.
 """
 from __future__ import annotations
@@ -22,10 +22,10 @@ METHODS = frozenset(MODES)
 
 @dataclass(frozen=True)
 class How:
-    """How code calls a pattern: by which methods, with which flags, and whether it may give a position to begin or end at.
+    """How code calls a pattern: by which methods of a pattern, and with which flags.
 
-    `sees` is what the code sees of the results: "truth", "spans" or "groups". `is_read` says that the code also reads the
-    pattern itself.
+    `position` says that it may give a position to begin or end at. `sees` is what the code sees of the results: "truth",
+    "spans" or "groups", where each includes the ones before. `is_read` says that the code also reads the pattern itself.
     """
 
     methods: FrozenSet[str]
@@ -35,17 +35,17 @@ class How:
     is_read: bool = False
 
     def modes(self) -> Tuple[str, ...]:
-        """Returns the modes of the methods: fullmatch, match, search, in this order."""
+        """Returns the modes of the methods, each once: fullmatch, match, search, in this order."""
         return tuple(it for it in ("fullmatch", "match", "search") if any(MODES[one] == it for one in self.methods))
 
     def only_truth(self) -> bool:
-        """Returns whether the code sees only whether there is a match, and never gives a position."""
+        """Returns whether the code sees only whether there is a match, gives no position, and asks for one match only."""
         return self.sees == TRUTH and not self.position and not self.methods & REPEATED
 
 
 @dataclass(frozen=True)
 class Witness:
-    """A text on which the two patterns differ if a call begins at `start`."""
+    """A text in which the two patterns find different things if a call begins at `start`, in characters from 0."""
 
     text: str
     start: int = 0
@@ -53,9 +53,11 @@ class Witness:
 
 @dataclass(frozen=True)
 class Answer:
-    """An answer: `word` is same, different or unknown, and `reason` says why. A difference has a witness.
+    """An answer: `word` is same, different or unknown.
 
-    `is_proved` says that relint-spans gave the answer. If it gave none, `unproved` says why.
+    `reason` says why it is unknown or, for the other words, how it was found; it may be "". `witness` shows a difference,
+    or is None. `is_proved` says that relint-spans gave the answer. If the check in Python gave it, `unproved` says why
+    relint-spans had none.
     """
 
     word: str
@@ -66,7 +68,10 @@ class Answer:
 
 
 def how_of(calls: Iterable[str], flags: int = 0) -> How:
-    """Returns how a pattern is called, from the names of its calls; for `compile`, any method may be called."""
+    """Returns how a pattern is called, from the names of its calls of `re`, under these flags.
+
+    If `compile` is among them, any method may be called, with a position; otherwise none is given. All groups are seen.
+    """
     given = frozenset(calls)
     if "compile" in given:
         return How(METHODS, flags, True)
@@ -74,15 +79,16 @@ def how_of(calls: Iterable[str], flags: int = 0) -> How:
 
 
 def how_used(used: Used, flags: int = 0) -> How:
-    """Returns how a pattern is called, from its uses."""
+    """Returns how a pattern is called, from its uses and the flags of its call. Raises ValueError if there are no uses."""
     sees = max((it.sees for it in used.uses), key=(TRUTH, SPANS, GROUPS).index)
     return How(frozenset(it.method for it in used.uses), flags, any(it.position for it in used.uses), sees, used.is_read)
 
 
 def same_spans(old: Text, new: Text, how: How) -> Answer:
-    """Returns whether code that calls a pattern in this way sees the same if the old pattern is replaced by the new one.
+    """Returns the answer to whether code that calls a pattern in this way sees the same with `new` in place of `old`.
 
-    Both patterns have to match the same texts in the modes of the calls, which `relint compare` proves.
+    The caller has proved that both patterns match the same texts in the modes of the calls. So the answer is "same" if the
+    code sees only whether there is a match.
     """
     if how.only_truth():
         return Answer(SAME, "only whether there is a match counts")
@@ -93,7 +99,11 @@ def same_spans(old: Text, new: Text, how: How) -> Answer:
 
 
 def proved(old: Text, new: Text, how: How, asker: alike.Alike) -> Answer:
-    """Returns the answer of relint-spans, or unknown with the reason why its answer can't be used."""
+    """Returns the answer of relint-spans, whose process is `asker`, or unknown with the reason why it has none to use.
+
+    A difference isn't used if the code may never make the call that shows it, or if it is in groups, which the code may not
+    see.
+    """
     for mode in _modes(how):
         said = asker.ask(old, new, how.flags, mode)
         if said.word == alike.DIFFER and mode == alike.EVERYWHERE and _is_one_search(how):
@@ -111,18 +121,18 @@ def proved(old: Text, new: Text, how: How, asker: alike.Alike) -> Answer:
 
 
 def _is_one_search(how: How) -> bool:
-    """Whether all calls except `fullmatch` are single searches that begin at the start of the text."""
+    """Returns whether all calls except `fullmatch` are single searches that begin at the start of the text."""
     return how.methods <= {"search", "fullmatch"} and not how.position
 
 
 def _modes(how: How) -> List[str]:
-    """The modes to ask relint-spans about. The mode EVERYWHERE answers for `match` and for all searches."""
+    """Returns the modes to ask relint-spans about. The mode EVERYWHERE answers for `match` and for all searches."""
     found = [alike.WHOLE] if "fullmatch" in how.methods else []
     return found + ([alike.EVERYWHERE] if how.methods - {"fullmatch"} else [])
 
 
 def checked(old: Text, new: Text, how: How) -> Answer:
-    """Returns the answer of the check in spans.py, which is tested but not proved."""
+    """Returns the answer of the check in spans.py, which is tested but not proved; unknown if a pattern can't be read."""
     try:
         pair = read_both([old, new], how.flags)
     except Unreadable as error:
@@ -137,12 +147,12 @@ def checked(old: Text, new: Text, how: How) -> Answer:
 
 
 def same_unplaced(old: Text, new: Text, how: How) -> Answer:
-    """Returns the answer of `same_spans` for the calls that give no position."""
+    """Returns the answer of `same_spans` as if no call gave a position."""
     return same_spans(old, new, replace(how, position=False))
 
 
 def _asked(pair: List[Pattern], questions: Sequence[Question]) -> Answer:
-    """The first answer to one of the questions that isn't "same", or "same" if all are."""
+    """Returns the first answer to one of the questions that isn't "same", or "same" if there is none."""
     for question in questions:
         found = spans.differ(pair, question)
         if found.same is None:
@@ -153,10 +163,10 @@ def _asked(pair: List[Pattern], questions: Sequence[Question]) -> Answer:
 
 
 def _questions(pair: List[Pattern], how: How) -> List[Tuple[Question, List[Question]]]:
-    """The questions to ask, each with other questions that replace it if its answer isn't "same".
+    """Returns the questions to ask, each with other questions that replace it if its answer isn't "same".
 
-    The first question may ask for too much: a search that begins at the start of a text doesn't need the same matches from
-    every place.
+    A question that may be replaced asks for too much: a search that begins at the start of a text doesn't need the same
+    matches from every place.
     """
     groups = how.sees == GROUPS
     found: List[Tuple[Question, List[Question]]] = []

@@ -11,9 +11,14 @@ BLANKS = (" ", "\n", "\t")
 
 
 class Sampler:
-    """Makes random texts, mostly of characters that the pattern names. The same seed gives the same texts."""
+    """Makes random texts, mostly of a few characters that the pattern can match. The same pattern and seed give the same ones.
+
+    `marks` are these characters: one of each class of the pattern, and blanks. `letters` keeps, for each mask, the characters
+    from which `of` chooses.
+    """
 
     def __init__(self, pattern: Pattern, seed: int = 1) -> None:
+        """Takes the pattern whose texts are wanted, and the seed."""
         self.pattern = pattern
         self.random = random.Random(seed)
         self.letters: Dict[int, List[str]] = {}
@@ -24,7 +29,7 @@ class Sampler:
         self.marks = sorted(marks | set(BLANKS))
 
     def of(self, mask: int) -> str:
-        """Returns a character of the mask, often one that the pattern names, or "" if the mask is empty."""
+        """Returns a random character of the mask, often one of the `marks`, or "" if the mask is empty."""
         if mask not in self.letters:
             alphabet = self.pattern.alphabet
             ranges = alphabet.ranges(mask)
@@ -37,7 +42,10 @@ class Sampler:
         return self.random.choice(found) if found else ""
 
     def text(self, node: Node) -> str:
-        """Returns a text that the node would match if its guards held."""
+        """Returns a random text, mostly one that the node matches.
+
+        A guard gives the empty text or, one time in four, a line end.
+        """
         if isinstance(node, Chars):
             return self.of(node.mask)
         if isinstance(node, Guard):
@@ -51,7 +59,11 @@ class Sampler:
         return self.rounds(node)
 
     def rounds(self, node: Repeat) -> str:
-        """Returns a text for a few rounds of a repeat."""
+        """Returns a random text for a repeat: its least number of rounds and up to three more.
+
+        No round is added to a text of more than LONGEST characters, and of the least number of rounds, no more than 40 are
+        made.
+        """
         count = min(node.least, 40) + min(self.random.choice((0, 0, 1, 1, 2, 3)), node.most - node.least)
         found = ""
         while count > 0 and len(found) <= LONGEST:
@@ -60,7 +72,11 @@ class Sampler:
         return found
 
     def spoiled(self, text: str) -> str:
-        """Returns the text with up to three changes: characters put in, taken out, doubled or moved."""
+        """Returns the text with up to three random changes.
+
+        Each puts in a character, takes one out (none at the end), doubles up to three characters, or swaps two parts of the
+        text and puts a blank between them.
+        """
         for _ in range(self.random.choice((0, 0, 1, 1, 2, 3))):
             at, kind = self.random.randrange(len(text) + 1), self.random.random()
             if kind < 0.4:
@@ -74,7 +90,7 @@ class Sampler:
         return text
 
     def texts(self, count: int) -> List[str]:
-        """Returns `count` texts, none of them longer than LONGEST."""
+        """Returns `count` texts of at most LONGEST characters: the empty text, a blank, a line end, and then random ones."""
         found = ["", " ", "\n"]
         while len(found) < count:
             text = self.text(self.pattern.tree)

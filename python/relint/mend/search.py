@@ -1,13 +1,19 @@
-"""Searches for a cure: rules propose patterns, and relint and the comparison of spans judge them."""
+"""Searches for a cure: rules propose patterns, and relint and the comparison of spans judge them.
+
+The *class* of a pattern says how fast the time of a match can grow with the length of the text: a degree, or exponential. It
+is a `Verdict` of relint, for one of the modes fullmatch, match and search. A *cure* is a pattern of a lower class that matches
+the same texts; judge.py says what its *tier* is.
+"""
 from __future__ import annotations
 
 import heapq
+import itertools
 import os
 import re
 import time
 from dataclasses import dataclass, field
 from difflib import SequenceMatcher
-from typing import Dict, Iterator, List, Optional, Sequence, Set, Tuple
+from typing import Dict, Iterator, List, NamedTuple, Optional, Sequence, Set, Tuple
 
 from ..flags import front
 from ..reports import Verdict
@@ -23,8 +29,10 @@ from .tree import Chars, Node, Pattern, Repeat, Unreadable, children, normal, re
 from .trial import Trial, tried
 from .write import Unwritable, body, kept, plain
 
+# The way from the root of a tree to a node: for each step, the number of the child, from 0.
 Path = Tuple[int, ...]
-# The class of a tree, and how many of its loops are exponential by themselves. A better tree has less.
+# The class of a tree, and how many of its innermost loops are exponential by themselves (0 if the original isn't exponential).
+# A better tree has less.
 Worth = Tuple[Order, int]
 
 LONGEST = 4000
@@ -41,10 +49,11 @@ SAYINGS = {it.name: it.says for it in (*RULES, LINE_ANCHOR)}
 
 @dataclass(frozen=True)
 class Limits:
-    """The limits of a search. None of them is a time, so the answer is the same on a busy machine.
+    """The limits of a search. None of them is a time.
 
-    A search makes up to `tries` comparisons, applies up to `steps` rules one after another, and asks relint for the classes of
-    up to `work` patterns. At the end each cure is tried on `texts` texts with the running Python.
+    A search makes up to `tries` comparisons. It applies up to `steps` rules one after another, and one more for each innermost
+    exponential loop after the first. It ends once it has asked relint for the classes of `work` patterns or
+    more. At the end each cure is tried on `texts` texts with the running Python.
     """
 
     tries: int = 50
@@ -57,7 +66,8 @@ class Limits:
 class Cure:
     """A pattern that matches the same texts as the original and has a lower class in `mode`.
 
-    `before` is the class of the original; `steps` are the names of the rules that led to the cure, in order.
+    `verdict` is its class, and `before` the class of the original. `steps` are the names of the rules that led to the cure, in
+    order. `judgement` says how it is known that spans and groups are the same, or what differs.
     """
 
     pattern: Text
@@ -69,11 +79,14 @@ class Cure:
     mode: str = "search"
 
     def changes(self) -> str:
-        """Returns a sentence for each rule that was applied: what it changed, and why that loses nothing."""
+        """Returns a sentence for each rule that was applied, once each: what it changed, and why that loses nothing.
+
+        Returns "" if no rule was applied.
+        """
         return " ".join(dict.fromkeys(SAYINGS[it] for it in self.steps if SAYINGS.get(it)))
 
     def words(self) -> str:
-        """Returns what is known of the cure, in words."""
+        """Returns what is known of the cure, in words: what is the same, how that is known, and what differs on which text."""
         judged = self.judgement
         if self.tier == "a":
             said = f"same texts (proved), same spans and groups ({judged.known()})"
@@ -89,9 +102,10 @@ class Cure:
 
 @dataclass(frozen=True)
 class Miss:
-    """A proposal of a lower class that doesn't match the same texts.
+    """A pattern of a lower class that isn't known to match the same texts as the original.
 
-    Only the original matches `left`, and only the proposal matches `right`; one of the two may be None.
+    `verdict` is its class. Only the original matches `left`, and only the proposal matches `right`; a text that isn't known is
+    None.
     """
 
     pattern: Text
@@ -102,11 +116,14 @@ class Miss:
 
 @dataclass
 class Outcome:
-    """What a search found.
+    """What a search found. The cures are in the order of their tiers, the best first, with at most one of each tier.
 
-    `before` is the class of the original, or None if relint didn't give one. `why` says why there is no cure, and is "" if
-    there is one. `faults` are the texts of the loops at fault. `relaxed` is a pattern whose runs leave out more characters,
-    `meant` is one with escaped dots, and `in_code` says what could be done in code instead.
+    `before` is the class of the original in `mode`, or None if relint didn't give one. `why` says why there is no cure, and is
+    "" if there is one. `tries` counts the proposals that were compared, and `runs` the runs of relint. `seconds` is the
+    time by the clock. `misses` are the proposals of a lower class that match other texts. `faults` are the texts of the loops
+    at fault. `trials` are what came of trying the cures with `re`, by their tiers. `relaxed` is a pattern whose
+    runs leave out more characters, `meant` is one with escaped dots, and `in_code` says what could be done in code instead;
+    each is None if there is nothing to suggest.
     """
 
     before: Optional[Verdict]
@@ -130,7 +147,7 @@ class Outcome:
 
 @dataclass(frozen=True)
 class Proposal:
-    """A whole tree that results from one use of a rule, with its text and the cost of the rule."""
+    """A whole tree that results from one use of the rule named `rule`, with its text, and the cost of that use."""
 
     cost: float
     rule: str
@@ -138,15 +155,28 @@ class Proposal:
     text: str
 
 
+class Queued(NamedTuple):
+    """A tree from which the search may go on. The least one comes first.
+
+    `rank` is its worth, then the number of its tier (0 for tier a), then the length of its text. `number` counts the trees in
+    the order in which they were found, so two trees are never compared themselves. `steps` are the rules that led to it.
+    """
+
+    rank: Tuple[Worth, int, int]
+    number: int
+    tree: Node
+    steps: Tuple[str, ...]
+
+
 def positions(node: Node, path: Path = ()) -> Iterator[Tuple[Path, Node]]:
-    """Yields each node with the path to it, outer nodes before inner ones."""
+    """Yields each node after the path to it, an outer node before its inner ones. `path` is the path to `node` itself."""
     yield path, node
     for at, it in enumerate(children(node)):
         yield from positions(it, (*path, at))
 
 
 def put(tree: Node, path: Path, new: Node) -> Node:
-    """Returns the tree with the node at the end of the path replaced."""
+    """Returns the tree with the node at the end of the path replaced by `new`, and simplified above it as by `with_child`."""
     if not path:
         return new
     return with_child(tree, path[0], put(children(tree)[path[0]], path[1:], new))
@@ -155,7 +185,8 @@ def put(tree: Node, path: Path, new: Node) -> Node:
 def distance(old: str, new: str) -> int:
     """Returns how different two patterns look to a reader.
 
-    That is how many characters were edited, by how many the pattern got longer, and GROUP_WEIGHT for each new group.
+    That is the number of edited characters, plus the number of characters by which the pattern got longer, plus GROUP_WEIGHT
+    for each opening parenthesis that the new pattern has more.
     """
     start = len(os.path.commonprefix([old, new]))
     tail = len(os.path.commonprefix([old[start:][::-1], new[start:][::-1]]))
@@ -166,11 +197,20 @@ def distance(old: str, new: str) -> int:
 
 
 class Search:
-    """One search for cures of a pattern. All its trees use the alphabet of that pattern."""
+    """One search for cures of a pattern. All its trees use the alphabet of that pattern.
+
+    `modes` are the modes in which a cure has to match the same texts and must not have a higher class. `asked` are the
+    patterns whose class was asked for, each with its mode; `tries` counts the comparisons. `best` has the best cure so far of
+    each tier, `kept` its class and its distance from the original, and `kept_at` is the number of comparisons when a cure was
+    kept last. `seen` has all texts that were proposed. `steps` are the rules that led to the tree that is being changed.
+    """
 
     def __init__(self, pattern: Text, mode: str, how: How, limits: Limits, asker: Asker,
                  rules: Sequence[Rule] = RULES) -> None:
-        """Takes the pattern, the mode in which its class is to become lower, and how the pattern is called."""
+        """Takes the pattern, the mode in which its class is to become lower, how the code calls the pattern, and limits.
+
+        `rules` are the rules to use; LINE_ANCHOR is used too if they are RULES.
+        """
         self.original = pattern
         self.flags = how.flags
         self.mode = mode
@@ -192,7 +232,11 @@ class Search:
         self.read: Pattern
 
     def run(self) -> Outcome:
-        """Searches, tries the cures with the running Python, and returns the outcome."""
+        """Searches, tries the cures with the running Python, and returns the outcome.
+
+        Without a class of the original, or if that is undecided, nothing is searched and `why` says so.
+        Raises ProgramError if relint can't be run.
+        """
         start, runs = time.monotonic(), self.asker.runs
         before = self.asker.classes([self.original], self.flags, self.mode)[0]
         outcome = Outcome(before, self.mode)
@@ -201,7 +245,7 @@ class Search:
         elif before.kind == "undecided":
             outcome.why = "relint doesn't know the class of the pattern"
         else:
-            outcome.why = self.found(before)
+            outcome.why = self.searched(before)
             self.try_out(outcome)
             self.add_notes(outcome)
         outcome.cures = sorted(self.best.values(), key=lambda it: TIERS.index(it.tier))
@@ -210,19 +254,22 @@ class Search:
         return outcome
 
     def add_notes(self, outcome: Outcome) -> None:
-        """Adds what a person could do instead, unless the class is good already.
+        """Adds what a person could do instead, unless the class of the original is good already.
 
-        These are patterns of a lower class with texts on which they differ and, if there is no cure, advice for the code.
+        That is `meant` and, if there is no cure, `relaxed` and `in_code`. Nothing is added if the pattern couldn't be read.
         """
         if order(outcome.before) <= GOOD or not hasattr(self, "read"):
             return
-        outcome.meant = self.other(notes.with_dots(self.read))
+        outcome.meant = self.differing(notes.with_dots(self.read))
         if not self.best:
-            outcome.relaxed = self.other(notes.relaxed(self.read))
+            outcome.relaxed = self.differing(notes.relaxed(self.read))
             outcome.in_code = notes.in_code(self.read)
 
-    def other(self, text: Optional[str]) -> Optional[Miss]:
-        """Returns a pattern with texts on which it differs from the original, or None if its class isn't lower."""
+    def differing(self, text: Optional[str]) -> Optional[Miss]:
+        """Returns the pattern `text` with texts on which it differs from the original, as far as they are known.
+
+        Returns None if `text` is None, or if its class isn't known or isn't lower.
+        """
         if text is None:
             return None
         verdict = self.classes([self.encoded(text)], self.flags, self.mode)[0]
@@ -232,7 +279,10 @@ class Search:
         return Miss(self.encoded(text), verdict, found.first, found.second)
 
     def try_out(self, outcome: Outcome) -> None:
-        """Tries each cure with the running Python, and drops the cures that don't behave as their tier says."""
+        """Tries each cure with the running Python, and drops a cure if a text shows that it doesn't behave as its tier says.
+
+        Does nothing if there is no cure or the limit of texts is 0. If no cure is left, `outcome.why` says so.
+        """
         if not self.best or not self.limits.texts:
             return
         texts = Sampler(self.read).texts(self.limits.texts)
@@ -244,8 +294,11 @@ class Search:
         if not self.best:
             outcome.why = "what was found differs from the pattern where this Python runs both"
 
-    def found(self, before: Verdict) -> str:
-        """Reads the pattern and searches for cures; `before` is its class. Returns why there is no cure, or "" if there is."""
+    def searched(self, before: Verdict) -> str:
+        """Reads the pattern and searches for cures; `before` is its class.
+
+        Returns why there is no cure, or "" if there is one.
+        """
         self.before = before
         try:
             self.read = read(self.original, self.flags)
@@ -263,39 +316,45 @@ class Search:
         return "no proposal was the same and better within the limits"
 
     def encoded(self, text: str) -> Text:
-        """Returns the text as it is, or as bytes if the original is a bytes pattern."""
+        """Returns the text as it is or, if the original is bytes, encoded as Latin-1."""
         return text if isinstance(self.original, str) else text.encode("latin-1")
 
-    def left(self) -> bool:
-        """Returns whether the search is to go on: tries and work are left, and no cure is good enough."""
+    def goes_on(self) -> bool:
+        """Returns whether the search is to go on: comparisons and work are left, and no cure is good enough."""
         return self.tries < self.limits.tries and len(self.asked) < self.limits.work and not self.enough()
 
     def classes(self, patterns: Sequence[Text], flags: int, mode: str) -> List[Optional[Verdict]]:
-        """Returns the classes that relint gives to patterns; each pattern that it wasn't asked about before counts as work."""
+        """Returns the classes that relint gives to patterns, each None if relint gives none.
+
+        Each pattern that this search didn't ask about before in this mode counts as work.
+        """
         self.asked.update((it, mode) for it in patterns)
         return self.asker.classes(patterns, flags, mode)
 
     def walk(self, text: str) -> None:
-        """Goes from the original to better patterns, step by step, the best ones first; cures are kept in `self.best`."""
-        tree = self.read.tree
+        """Goes from the original, whose text is given, to better patterns, step by step, the best ones first.
+
+        The cures that it finds are kept in `self.best`.
+        """
         self.seen.add(text)
-        queue: List[Tuple[Tuple[Order, int, int, int], int, Node, Tuple[str, ...]]] = []
-        count = 0
-        heapq.heappush(queue, ((order(self.before), len(self.guilty(tree)), 0, len(text)), count, tree, ()))
-        while queue and self.left():
-            badness, _, tree, steps = heapq.heappop(queue)
-            self.steps = steps
-            for proposal, worth, tier in self.followers(tree, badness[:2]):
-                taken = (*steps, proposal.rule)
-                count += 1
-                key = (worth[0], worth[1], TIERS.index(tier), len(proposal.text))
-                if len(taken) < self.limits.steps + self.extra():
-                    heapq.heappush(queue, (key, count, proposal.tree, taken))
-            if self.enough():
-                return
+        tree, most_steps = self.read.tree, self.limits.steps + self.extra()
+        worth: Worth = order(self.before), len(self.guilty(tree))
+        numbers = itertools.count()
+        queue = [Queued((worth, 0, len(text)), next(numbers), tree, ())]
+        while queue and self.goes_on():
+            best = heapq.heappop(queue)
+            self.steps = best.steps
+            for proposal, worth, tier in self.followers(best.tree, best.rank[0]):
+                steps = (*best.steps, proposal.rule)
+                if len(steps) < most_steps:
+                    rank = worth, TIERS.index(tier), len(proposal.text)
+                    heapq.heappush(queue, Queued(rank, next(numbers), proposal.tree, steps))
 
     def loops_at_fault(self) -> List[str]:
-        """Returns the texts, in the original, of the innermost loops that are exponential by themselves."""
+        """Returns the texts, in the original, of the innermost loops that are exponential by themselves.
+
+        A loop that has no text of its own, because it is in a group with flags of its own, is left out.
+        """
         found: List[str] = []
         for path in self.guilty(self.read.tree):
             node = self.read.tree
@@ -308,7 +367,8 @@ class Search:
     def enough(self) -> bool:
         """Returns whether the cure of tier a is good enough.
 
-        It is if its class is GOOD or better, or if it is FAIR and MORE_TRIES more tries brought nothing better.
+        It is if its class is GOOD or better, or if it is FAIR and the last MORE_TRIES comparisons brought no cure of
+        any tier that was kept. Without a cure of tier a, returns False.
         """
         done = self.best.get("a")
         if done is None:
@@ -317,13 +377,21 @@ class Search:
         return worth <= GOOD or worth <= FAIR and self.tries >= self.kept_at + MORE_TRIES
 
     def extra(self) -> int:
-        """Returns how many more steps are allowed: one for each loop that is exponential by itself, except the first."""
+        """Returns how many more steps are allowed.
+
+        That is one for each innermost loop that is exponential by itself, except the first; 0 if the original isn't
+        exponential.
+        """
         return max(0, len(self.guilty(self.read.tree)) - 1)
 
     # What is proposed
 
     def loops(self, tree: Node) -> Tuple[List[Path], List[Text]]:
-        """Returns the paths to the loops that can be judged by themselves, and a pattern for each of these loops."""
+        """Returns the paths to the loops that can be judged by themselves, and a pattern for each of these loops.
+
+        These are the repeats, with or without an upper bound, whose body isn't just a class and contains no guard. A
+        loop that can't be written is left out.
+        """
         paths: List[Path] = []
         texts: List[Text] = []
         prefix = front(self.read.flags & ~re.VERBOSE)
@@ -337,7 +405,10 @@ class Search:
         return paths, texts
 
     def guilty(self, tree: Node) -> List[Path]:
-        """Returns the paths to the loops that are exponential by themselves and contain no smaller loop that is."""
+        """Returns the paths to the loops that are exponential by themselves and contain no smaller loop that is.
+
+        Returns none if the class of the original isn't exponential.
+        """
         if order(self.before) != EXPONENTIAL:
             return []
         paths, texts = self.loops(tree)
@@ -346,12 +417,19 @@ class Search:
         return [it for it in found if not any(other != it and other[:len(it)] == it for other in found)]
 
     def ask_ahead(self, trees: Sequence[Node]) -> None:
-        """Asks relint about the loops of all these trees in one run, so that `guilty` needs no run of its own for each."""
+        """Asks relint about the loops of all these trees in one run, so that `guilty` needs no run of its own for each.
+
+        Does nothing if the original isn't exponential, since `guilty` asks nothing then.
+        """
         if order(self.before) == EXPONENTIAL:
             self.classes([text for it in trees for text in self.loops(it)[1]], 0, "fullmatch")
 
     def proposals(self, tree: Node) -> List[Proposal]:
-        """Returns the proposals of the rules for the tree, the cheapest first; no text is proposed twice in a search."""
+        """Returns at most MOST_PROPOSALS proposals of the rules for the tree, the cheapest first.
+
+        Once about MOST_MADE were made, the rules are cut short. No text is proposed twice in a search, and what is cut off
+        here isn't proposed later. A change in a loop at fault costs 1 less than its rule does.
+        """
         guilty = self.guilty(tree)
         found: List[Proposal] = []
         for rule in self.rules:
@@ -369,7 +447,8 @@ class Search:
     def proposal(self, rule: Rule, cost: float, tree: Node) -> List[Proposal]:
         """Returns a list of one proposal for the tree, or an empty list.
 
-        It is empty if the tree doesn't have the groups of the original, or if its text is too long or was proposed before.
+        It is empty if the tree doesn't have the groups of the original, or if its text can't be written, is longer than
+        LONGEST, or was proposed before.
         """
         if tree.facts.groups != self.read.tree.facts.groups:
             return []
@@ -387,13 +466,14 @@ class Search:
     def followers(self, tree: Node, badness: Worth) -> List[Tuple[Proposal, Worth, str]]:
         """Returns the proposals for a tree that match the same texts and are better, with their worth and tier.
 
-        If none of them is of tier a, some proposals that are as good as the tree are returned too.
+        `badness` is the worth of the tree. If none of them is of tier a, up to MOST_EVEN proposals that are as good as the
+        tree are compared too, and returned if they match the same texts. Fewer are compared if the search is to end.
         """
         found: List[Tuple[Proposal, Worth, str]] = []
         even: List[Tuple[Proposal, Worth]] = []
         every = self.proposals(tree)
         for at in range(0, len(every), BATCH):
-            if not self.left():
+            if not self.goes_on():
                 break
             part = every[at:at + BATCH]
             verdicts = self.classes([self.encoded(it.text) for it in part], self.flags, self.mode)
@@ -420,10 +500,11 @@ class Search:
     def judged(self, proposal: Proposal, verdict: Optional[Verdict]) -> str:
         """Compares a proposal with the original; returns its tier, or "" if it doesn't match the same texts.
 
-        If its class `verdict` is lower and it is no worse in any mode, it is kept as a cure. A proposal that doesn't match the
-        same texts is kept as a miss if its class is lower. Returns "" if no tries or work are left.
+        `verdict` is its class, or None if the proposal is only a step and isn't to be kept. If the class is lower than the
+        original's, the proposal is given to `keep` if it matches the same texts and is no worse in any mode, and to `miss` if
+        it doesn't match them. Returns "" and does nothing if the search is to end.
         """
-        if not self.left():
+        if not self.goes_on():
             return ""
         self.tries += 1
         text = self.encoded(proposal.text)
@@ -436,7 +517,10 @@ class Search:
         return judged.tier
 
     def miss(self, text: Text, verdict: Optional[Verdict]) -> None:
-        """Keeps a proposal of a lower class that doesn't match the same texts, with texts that show the difference."""
+        """Keeps a proposal that doesn't match the same texts, with texts that show the difference.
+
+        It isn't kept if its class is None or isn't lower, or if no such text is known.
+        """
         if verdict is None or order(verdict) >= order(self.before):
             return
         for mode in self.modes:
@@ -446,7 +530,7 @@ class Search:
                 return
 
     def no_worse(self, text: Text) -> bool:
-        """Returns whether the class of `text` is no worse than that of the original in any mode that counts."""
+        """Returns whether the class of `text` is no higher than the original's in any of the modes."""
         for mode in self.modes:
             one, other = self.asker.classes([self.original, text], self.flags, mode)
             if order(other) > order(one):
@@ -454,7 +538,10 @@ class Search:
         return True
 
     def keep(self, proposal: Proposal, verdict: Verdict, judged: Judgement) -> None:
-        """Keeps a cure if it is the best of its tier so far: by its class, then by how near it is to the original."""
+        """Keeps a cure if it is the best of its tier so far: by its class, then by its distance from the original.
+
+        Of equal ones, the first is kept.
+        """
         worth = order(verdict), self.far(proposal)
         if judged.tier in self.best and self.kept.get(judged.tier, worth) <= worth:
             return
@@ -466,7 +553,8 @@ class Search:
     def as_written(self, proposal: Proposal, judged: Judgement) -> Tuple[Text, Judgement]:
         """Returns the proposal with its unchanged parts written as in the original, and the judgement of that text.
 
-        Falls back to the plain text if the other text can't be shown to be the same pattern, or if its tier differs.
+        Returns the plain text and the given judgement if the other text can't be shown to be the same pattern, or if its tier
+        differs.
         """
         verbose = bool(self.read.flags & re.VERBOSE)
         written = self.encoded(with_layout(self.read.text, kept(proposal.tree, self.read), verbose))

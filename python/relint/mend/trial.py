@@ -20,22 +20,29 @@ MEMORY = 1_073_741_824
 
 
 class Trial(NamedTuple):
-    """A text on which the two patterns differ, or None; and on how many texts they were compared within the time."""
+    """What came of a trial: `differs` is a text on which the two patterns differ, or None if none was found.
+
+    `compared` is the number of texts on which they were compared within the time and found to be the same.
+    """
 
     differs: Optional[str]
     compared: int
 
 
 class TookLong(Exception):
-    """Raised if a match exceeds its limit of time."""
+    """Raised in a match that exceeds its limit of time."""
 
 
 def _stop(*_: Any) -> None:
+    """Raises TookLong; this is the handler of the timer's signal."""
     raise TookLong
 
 
 def _limited(call: Callable[[], Any]) -> Any:
-    """Calls `call` under the limit of time, if the system has timers. Returns its result, or None if it took too long."""
+    """Calls `call` under the limit MATCH_SECONDS, if the system has timers.
+
+    Returns its result, or None if it took too long. `call` mustn't return None itself.
+    """
     timer = getattr(signal, "setitimer", None)
     if timer is None:
         return call()
@@ -50,7 +57,10 @@ def _limited(call: Callable[[], Any]) -> Any:
 
 
 def _seen(match: Any, tier: str) -> Any:
-    """What has to be the same of a match in a tier: spans and groups (a), the span (b), or that there is one (c)."""
+    """Returns what has to be the same of a match in a tier: spans and groups (a), the span (b), or that there is one (c).
+
+    The result is a list, which is empty if `match` is None.
+    """
     if match is None:
         return []
     if tier == "a":
@@ -59,7 +69,10 @@ def _seen(match: Any, tier: str) -> Any:
 
 
 def _views(pattern: Any, text: Any, calls: Sequence[str], tier: str) -> List[Callable[[], Any]]:
-    """The calls of a pattern on a text whose results are compared."""
+    """Returns the calls of a pattern on a text whose results are compared, as functions without parameters.
+
+    `calls` are their names: match, fullmatch, search, finditer, and position for a search from the middle of the text.
+    """
     views: Dict[str, Callable[[], Any]] = {
         "match": lambda: _seen(pattern.match(text), tier),
         "fullmatch": lambda: _seen(pattern.fullmatch(text), tier),
@@ -71,11 +84,16 @@ def _views(pattern: Any, text: Any, calls: Sequence[str], tier: str) -> List[Cal
 
 
 def _coded(text: str, is_bytes: bool) -> Any:
+    """Returns the text as it is, or encoded as Latin-1 for a bytes pattern."""
     return text.encode("latin-1") if is_bytes else text
 
 
 def _run(asked: Dict[str, Any]) -> Dict[str, Any]:
-    """Does what `tried` asks, in its own process, and returns the values of the Trial."""
+    """Does what `tried` asks, in the process of its own, and returns the values of the Trial by their names.
+
+    `asked` has the values that `tried` makes. Shorter texts come first. It stops at the first difference, or after
+    WHOLE_SECONDS. A text on which a match takes too long isn't counted as compared.
+    """
     left, right = (re.compile(_coded(it, asked["bytes"]), asked["flags"]) for it in asked["patterns"])
     compared = 0
     deadline = time.monotonic() + WHOLE_SECONDS
@@ -100,7 +118,9 @@ def tried(left: Union[str, bytes], right: Union[str, bytes], flags: int, calls: 
           ) -> Trial:
     """Tries both patterns on the texts, and compares what the tier promises to be the same.
 
-    If the process fails or takes too long, returns a Trial without a difference and with nothing compared.
+    `calls` are the names of the calls, as `_views` has them. If the patterns are bytes, texts with characters above 255 are
+    left out. If the process fails or takes too long, returns a Trial without a difference and with nothing compared. Raises
+    OSError if the process can't be started.
     """
     is_bytes = isinstance(left, bytes)
     patterns = [it.decode("latin-1") if isinstance(it, bytes) else it for it in (left, right)]

@@ -1,4 +1,8 @@
-"""Has relint judge patterns in the modes of their uses, many patterns in one run."""
+"""Has relint judge patterns in the modes of their uses, many patterns in one run.
+
+A mode is "match", "fullmatch" or "search". To be judged, a pattern is written into a source as a call of the function of `re`
+that has the name of the mode.
+"""
 from __future__ import annotations
 
 import os
@@ -12,7 +16,7 @@ from ..reports import Entry, Report, ReportError, Text, Verdict, read_report
 from ..verdicts import degree, is_finding, order
 from .sites import Used
 
-# The limits of one run; relint accepts a source of up to 4 MiB.
+# The largest number of patterns in one run, and of characters in its source; relint accepts a source of up to 4 MiB.
 MOST_IN_A_RUN, MOST_LETTERS = 1000, 3_000_000
 # The words for a finding that no use reaches.
 UNUSED = "not as used here"
@@ -22,7 +26,7 @@ SECONDS = 60
 
 @dataclass(frozen=True)
 class Asked:
-    """A pattern under the flags of its call, and the modes in which it is to be judged."""
+    """A pattern, the value of its flags, and the modes in which relint is to judge it; there may be no modes."""
 
     pattern: Text
     flags: int
@@ -31,41 +35,51 @@ class Asked:
 
 @dataclass(frozen=True)
 class AsUsed:
-    """How a pattern is used, and relint's entry for it in each mode of its uses, or None if relint has none."""
+    """How a pattern is used, and relint's entry for it in each mode of its uses, which is at least one.
+
+    An entry is None if relint gave none. The class in a mode is unknown if its entry is None, undecided or refused.
+    """
 
     used: Used
     entries: Dict[str, Optional[Entry]]
 
     @property
     def mode(self) -> str:
-        """The mode in which the class is worst; of equal ones search, then match."""
+        """The mode in which the class is worst. An unknown class is the worst; of equal ones, search wins, then match."""
         return max(sorted(self.entries, reverse=True), key=lambda it: order(self.verdict_in(it)))
 
     @property
     def entry(self) -> Optional[Entry]:
-        """The entry of the worst mode."""
+        """The entry in the worst mode, or None if relint gave none there."""
         return self.entries[self.mode]
 
     @property
     def verdict(self) -> Optional[Verdict]:
-        """The worst of the classes, or None if relint doesn't judge the pattern."""
+        """The class in the worst mode, which may be undecided; None if relint gave no entry there or refused the pattern."""
         return self.verdict_in(self.mode)
 
     def verdict_in(self, mode: str) -> Optional[Verdict]:
-        """Returns the class in a mode, or None if relint doesn't judge the pattern."""
+        """Returns the class in a mode, which may be undecided; None if relint gave no entry there or refused the pattern.
+
+        Raises KeyError if no use has the mode.
+        """
         entry = self.entries[mode]
         return entry.verdict() if entry else None
 
     def is_finding(self, max_degree: int) -> bool:
-        """Returns whether a use of the pattern is a finding."""
+        """Returns whether the class under some use is known, and is exponential or a degree above `max_degree`."""
         return any(is_finding(self.verdict_in(it), max_degree) for it in self.entries)
 
     def is_cleared(self, max_degree: int) -> bool:
-        """Returns whether the class of each use is known, and none is a finding."""
+        """Returns whether the class under each use is known, and is a degree of at most `max_degree`."""
         return order(self.verdict) <= degree(max_degree)
 
     def words(self, whole: Verdict, whole_mode: str) -> str:
-        """Returns words for both classes, such as `degree 4 if searched; here only .match (line 1497): degree 2`."""
+        """Returns words for two classes, such as `degree 4 if searched; here only .match (line 1497): degree 2`.
+
+        The first is `whole`, the class in the mode `whole_mode`; the second is `verdict`, or "not judged" if that is None.
+        Raises KeyError if `whole_mode` isn't a key of PAST.
+        """
         here = self.verdict.words() if self.verdict else "not judged"
         return f"{whole.words()} if {PAST[whole_mode]}; here only {self.used.words()}: {here}"
 
@@ -74,9 +88,10 @@ PAST = {"search": "searched", "match": "matched at its start", "fullmatch": "mat
 
 
 def judged(asked: Sequence[Asked], max_pairs: Optional[int] = None) -> List[Dict[str, Optional[Entry]]]:
-    """Returns relint's entry for each pattern in each of its modes, or None if it has none. Raises ProgramError.
+    """Returns for each pattern, in order, a dictionary with relint's entry in each of its modes, or None if relint gave none.
 
-    The path, the places and the call of an entry are those in the source that relint was asked about, not in the user's.
+    `max_pairs` is relint's limit of live pairs; None is relint's own default. The path, the places and the call of an entry
+    are those in the source that relint was asked about, not in the user's. Raises ProgramError if relint can't be asked.
     """
     lines = {(it.pattern, it.flags, mode): _line(it.pattern, it.flags, mode) for it in asked for mode in sorted(it.modes)}
     known: Dict[str, Optional[Entry]] = {}
@@ -86,7 +101,7 @@ def judged(asked: Sequence[Asked], max_pairs: Optional[int] = None) -> List[Dict
 
 
 def _parts(lines: Sequence[str]) -> Iterator[List[str]]:
-    """Yields the lines in parts, each for one run; a line that is too long for a run is left out."""
+    """Yields the lines in order in parts, each for one run; a line with more than MOST_LETTERS characters is left out."""
     part: List[str] = []
     room = MOST_LETTERS
     for line in lines:
@@ -101,11 +116,16 @@ def _parts(lines: Sequence[str]) -> Iterator[List[str]]:
 
 
 def _line(pattern: Text, flags: int, mode: str) -> str:
+    """Returns a line of Python, in ASCII and with its line end, such as `re.match('a', s, re.I)` for the mode "match"."""
     return f"re.{mode}({ascii(pattern)}, s{flags_code(flags)})\n"
 
 
 def _judged(lines: Sequence[str], max_pairs: Optional[int]) -> List[Optional[Entry]]:
-    """The entry for each line, or None if relint has none in time. If a run takes too long, the lines are judged in halves."""
+    """Returns the entry for each line, of which there must be one at least, or None if relint gave none in time.
+
+    If a run takes longer than SECONDS, the lines are judged in halves. Raises ProgramError if relint can't be run or a run
+    gives no report.
+    """
     try:
         return _answered(lines, max_pairs)
     except program.TookLong:
@@ -117,7 +137,10 @@ def _judged(lines: Sequence[str], max_pairs: Optional[int]) -> List[Optional[Ent
 
 
 def _answered(lines: Sequence[str], max_pairs: Optional[int]) -> List[Optional[Entry]]:
-    """The entry for each line, by one run over a source made of them. Raises TookLong and ProgramError."""
+    """Returns the entry for each line, or None if relint gave none, by one run over a source made of the lines.
+
+    Raises TookLong if the run takes longer than SECONDS, and ProgramError if relint can't be run or gives no report.
+    """
     words = ["check", "--format", "json", "--report", "2"]
     if max_pairs is not None:
         words += ["--max-pairs", str(max_pairs)]
@@ -131,6 +154,7 @@ def _answered(lines: Sequence[str], max_pairs: Optional[int]) -> List[Optional[E
 
 
 def _read(answer: program.Answer) -> Report:
+    """Returns the report that a run wrote, whatever its status. Raises ProgramError if it wrote none that can be read."""
     try:
         return read_report(answer.out)
     except ReportError as error:

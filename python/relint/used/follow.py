@@ -1,16 +1,20 @@
-"""Follows one compiled pattern through its file, and finds out how it is used there.
+"""Follows one compiled pattern through one file, and finds out how it is used there.
 
 A pattern is followed if a method is called on it at once; if it is bound to a name that a module, class or function binds only
-once, or to an attribute of `self` or `cls` that its class binds only once; or if it is the default of a parameter. Each load
-has to call a method of the pattern, or be the first argument of a function of `re`. If the pattern goes anywhere else, its
-uses aren't known.
+once, or to an attribute of `self` or `cls` that its class binds only once; or if it is the default of a parameter. A load is
+an expression that reads such a name or attribute. Each load has to take a method or a property of the pattern, be the first
+argument of a function of `re`, or only be tested for truth. Anywhere else the pattern is lost: its uses aren't known then.
+
+A use is a call of a method of the pattern, or of a function of `re` with it. The mode of a use is "match", "fullmatch" or
+"search". What the code sees of a match is TRUTH if that is only whether there is one, SPANS if it may also be where the match
+begins and ends or its text, and GROUPS if it may be anything.
 """
 from __future__ import annotations
 
 import ast
 import builtins
 from dataclasses import dataclass, field
-from typing import FrozenSet, Iterator, List, Optional, Set, Tuple, Union
+from typing import FrozenSet, List, Optional, Set, Tuple, Union
 
 from ..scoping import FUNCTIONS
 from .names import Names, Scope
@@ -20,9 +24,12 @@ MODES = {
     "match": "match", "fullmatch": "fullmatch", "search": "search", "findall": "search", "finditer": "search",
     "split": "search", "sub": "search", "subn": "search",
 }
+# The methods that take the arguments `pos` and `endpos`.
 PLACED = frozenset(("match", "fullmatch", "search", "findall", "finditer"))
+# The attributes of a compiled pattern that aren't methods.
 TELLS = frozenset(("pattern", "flags", "groups", "groupindex"))
 TRUTH, SPANS, GROUPS = "truth", "spans", "groups"
+# From the least to the most that the code may see.
 _SEEN_ORDER = (TRUTH, SPANS, GROUPS)
 # Functions by which a name can be read without being written in the source.
 _READS_GLOBALS = frozenset(("globals", "vars", "locals", "exec", "eval", "execfile"))
@@ -33,20 +40,23 @@ _PLAIN_BASES = frozenset(name for name, it in vars(builtins).items() if isinstan
 
 
 def mode_of(call: Optional[str], compile_as: str) -> str:
-    """Returns the mode of a call: match, fullmatch or search. The mode of `compile` is `compile_as`."""
+    """Returns the mode of a call of the function `call` of `re`: "match", "fullmatch" or "search".
+
+    A call of `compile` has the mode `compile_as`. None or an unknown name gives "search".
+    """
     return compile_as if call == "compile" else MODES.get(call or "", "search")
 
 
 class Lost(Exception):
-    """Raised if the pattern goes where it can't be followed; the message says where."""
+    """Raised, or returned, if the uses of a pattern can't be found; the message says where it is lost, or why."""
 
 
 @dataclass(frozen=True)
 class Use:
-    """One use of a pattern: the method, its line, and what the code sees of the result.
+    """One use of a pattern: the name of the method, its line (from 1), and what the code sees of the result.
 
-    `position` says that the call may give a position to begin or to end at. `sees` is "truth" if the code sees only whether
-    there is a match, "spans" if it doesn't see groups, and otherwise "groups".
+    `position` says that the call may give the argument `pos` or `endpos`. `sees` is TRUTH, SPANS or GROUPS. `path` is the path
+    of the file that the use is in. In a `Used`, `path` is None if that is the pattern's own file.
     """
 
     method: str
@@ -63,7 +73,10 @@ class Use:
 
 @dataclass(frozen=True)
 class Name:
-    """A name that holds the pattern, and by which other files may reach it; with `is_attribute`, an attribute of a class."""
+    """A name by which other files may reach the pattern.
+
+    It is an attribute of a class or of its instances if `is_attribute` is set, otherwise a name of the module.
+    """
 
     name: str
     is_attribute: bool
@@ -71,7 +84,11 @@ class Name:
 
 @dataclass
 class Found:
-    """The uses found so far, whether code reads the pattern itself, and the names to look for in other files."""
+    """What is found of a pattern in one file or several.
+
+    `uses` are its uses. `is_read` says that code reads the pattern's text, its flags or its groups. `names` are the names to
+    look for in other files.
+    """
 
     uses: List[Use] = field(default_factory=list)
     is_read: bool = False
@@ -79,35 +96,50 @@ class Found:
 
 
 class File:
-    """A source in which patterns are followed. The uses that are found in it have its `path`."""
+    """A source in which patterns are followed. The uses that are found in it have its `path`; `names` are its names."""
 
     def __init__(self, data: bytes, path: Optional[str] = None) -> None:
-        """Reads the source. Raises Unparsed."""
+        """Parses the source. Raises Unparsed if it isn't UTF-8, or the running Python can't parse it."""
         self.path = path
         self.names = Names(data)
 
     def call(self, line: int, column: int) -> Optional[ast.Call]:
-        """Returns the call whose pattern begins at a line and a column, counted as in `ast`; None if there is none."""
+        """Returns the call whose first argument, or argument `pattern`, begins at a line and column; None if there is none.
+
+        As in `ast`, lines count from 1, and columns count bytes of UTF-8 from 0.
+        """
         return self.names.patterns.get((line, column))
 
     def direct(self, call: ast.Call, method: str) -> Found:
-        """Returns the one use of a pattern that is written in a call of a function of `re`: that call itself."""
+        """Returns what is found of a pattern that is written in `call`, as in `re.match("a", text)`: one use, the call itself.
+
+        `method` is the name of the function of `re` that is called, a key of MODES.
+        """
         return Found([Use(method, call.lineno, False, _Follower(self, Found()).seen(call, method), self.path)])
 
     def compiled(self, call: ast.Call) -> Found:
-        """Returns the uses of the pattern that a call compiles, in this file. Raises Lost."""
+        """Returns what is found in this file of the pattern that `call`, a call of `re.compile`, makes.
+
+        Raises Lost if the pattern can't be followed.
+        """
         found = Found()
         _Follower(self, found).value(call, True)
         return found
 
     def attribute(self, name: str) -> Found:
-        """Returns the uses of all attributes of that name, of any object. Raises Lost."""
+        """Returns what is found of a pattern that is the attribute `name` of any object in this file.
+
+        Raises Lost if the pattern can't be followed.
+        """
         found = Found()
         _Follower(self, found).attributes(name)
         return found
 
     def name(self, scope: Scope, name: str) -> Found:
-        """Returns the uses of a name that an import binds in that scope. Raises Lost."""
+        """Returns what is found of a pattern that an import binds to `name` in `scope`.
+
+        Raises Lost if the pattern can't be followed.
+        """
         found = Found()
         _Follower(self, found).name(scope, name)
         return found
@@ -117,12 +149,17 @@ class _Follower:
     """Follows one pattern through one file. Its methods raise Lost if the pattern can't be followed."""
 
     def __init__(self, file: File, found: Found) -> None:
+        """Takes the file, and the object to which everything that is found is added."""
         self.file = file
         self.names = file.names
         self.found = found
 
     def value(self, node: ast.AST, may_bind: bool = False) -> None:
-        """Follows the value of an expression to its use; with `may_bind`, also if it is bound to a name."""
+        """Follows the pattern that is the value of the expression `node` to its uses.
+
+        A test for truth and a statement that is only the expression are no uses. With `may_bind`, the pattern may also be
+        bound to a name or an attribute, or be the default of a parameter. Raises Lost if it goes anywhere else.
+        """
         parent = self.names.parents.get(node)
         if isinstance(parent, ast.Attribute):
             self.member(parent)
@@ -143,7 +180,11 @@ class _Follower:
             raise Lost(f"it goes elsewhere in line {getattr(node, 'lineno', 0)}")
 
     def member(self, node: ast.Attribute) -> None:
-        """Follows an attribute of the pattern: a method is a use, and its text, flags or groups may be read."""
+        """Notes what `node`, an attribute of the pattern, means: a method is a use, and one of TELLS reads the pattern.
+
+        A method that isn't called, as in `f = P.match`, counts as called with a position if it takes one, and the code as
+        seeing GROUPS. Raises Lost for another attribute, an attribute of a method, or one that is bound or deleted.
+        """
         if node.attr in TELLS and isinstance(node.ctx, ast.Load):
             self.found.is_read = True
             return
@@ -156,20 +197,28 @@ class _Follower:
             self.use(node.attr, node.lineno, node.attr in PLACED, GROUPS)
 
     def use(self, method: str, line: int, position: bool, sees: str) -> None:
+        """Adds a use in this file, with the fields of `Use`."""
         self.found.uses.append(Use(method, line, position, sees, self.file.path))
 
     def argument(self, node: ast.AST, parent: Union[ast.Call, ast.keyword]) -> None:
-        """Follows an argument of a call, which has to be the pattern of a function of `re`."""
+        """Adds the use of the pattern as an argument. Raises Lost unless it is the argument `pattern` of a function of `re`.
+
+        `node` is the argument; `parent` is the call or, if the argument is given by name, the keyword.
+        """
         call = parent if isinstance(parent, ast.Call) else self.names.parents.get(parent)
-        is_pattern = isinstance(call, ast.Call) and (
-            parent.arg == "pattern" if isinstance(parent, ast.keyword) else call.args[:1] == [node])
-        method = self.function_of_re(call.func) if is_pattern and isinstance(call, ast.Call) else None
-        if method is None or not isinstance(call, ast.Call):
-            raise Lost(f"it is given to a call in line {getattr(node, 'lineno', 0)}")
-        self.use(method, call.lineno, False, self.seen(call, method))
+        if isinstance(call, ast.Call):
+            is_pattern = parent.arg == "pattern" if isinstance(parent, ast.keyword) else call.args[:1] == [node]
+            method = self.function_of_re(call.func) if is_pattern else None
+            if method is not None:
+                self.use(method, call.lineno, False, self.seen(call, method))
+                return
+        raise Lost(f"it is given to a call in line {getattr(node, 'lineno', 0)}")
 
     def function_of_re(self, node: ast.AST) -> Optional[str]:
-        """Returns the name of the function of `re` that an expression is, or None if it isn't certain that it is one."""
+        """Returns the name of the function of MODES that an expression names, as `re.match` does; None if that isn't certain.
+
+        If only `from re import match as m` binds `m`, then `m` is the function `match`.
+        """
         if isinstance(node, ast.Attribute) and isinstance(node.value, ast.Name):
             bound = self.meant(node.value)
             is_re = all(isinstance(it, ast.alias) and it.name == "re" and isinstance(self.names.parents.get(it), ast.Import)
@@ -181,10 +230,11 @@ class _Follower:
         return found.pop() if len(found) == 1 else None
 
     def meant(self, node: ast.Name) -> List[ast.AST]:
-        """Returns all nodes that bind a name where it is loaded."""
+        """Returns the nodes that bind the name that `node` loads, in the scope where it is found; none if it isn't bound."""
         return self.names.inside[node].home(node.id).bindings.get(node.id, [])
 
     def imported_from_re(self, node: ast.AST) -> Optional[str]:
+        """Returns the name of the function of MODES that a binding imports, as `from re import match` does, or None."""
         above = self.names.parents.get(node)
         is_re = isinstance(above, ast.ImportFrom) and above.module == "re" and not above.level
         return node.name if is_re and isinstance(node, ast.alias) and node.name in MODES else None
@@ -192,13 +242,17 @@ class _Follower:
     # What it is bound to
 
     def assigned(self, node: Union[ast.Assign, ast.AnnAssign]) -> None:
+        """Follows the target of an assignment. Raises Lost if there are several, as in `a = b = P`."""
         targets = node.targets if isinstance(node, ast.Assign) else [node.target]
         if len(targets) != 1:
             raise Lost(f"it has several names in line {node.lineno}")
         self.bound(targets[0])
 
     def bound(self, target: ast.AST) -> None:
-        """Follows the name or the attribute that the pattern is bound to."""
+        """Follows the name or the attribute that the pattern is bound to.
+
+        Raises Lost if `target` is neither of them, or if it is a name that is bound more than once.
+        """
         if isinstance(target, ast.Attribute):
             self.of_instance(target)
             return
@@ -213,11 +267,14 @@ class _Follower:
             self.name(home, target.id)
 
     def binding_home(self, target: ast.Name) -> Scope:
-        """Returns the scope in which a store binds its name."""
+        """Returns the scope that holds the name `target`, which is the target of `=` or `:=`."""
         return self.names.inside[target].around().home(target.id)
 
     def default(self, node: ast.AST, arguments: ast.arguments) -> None:
-        """Follows the parameter whose default the pattern is."""
+        """Follows the parameter whose default is `node`; `arguments` are the parameters of its function.
+
+        Raises Lost if the function is decorated or binds the name again.
+        """
         function = self.names.parents[arguments]
         if getattr(function, "decorator_list", ()):
             raise Lost(f"it is a default of a decorated function in line {getattr(node, 'lineno', 0)}")
@@ -230,7 +287,11 @@ class _Follower:
         self.name(home, name)
 
     def name(self, home: Scope, name: str) -> None:
-        """Follows all loads of a name of a module or a function."""
+        """Follows all loads of a name of the module or of a function, whose scope is `home`.
+
+        Raises Lost if a load can't be followed, or the file may read the name in another way, such as by `globals()`. A name
+        of the module is also noted, to be looked for in other files.
+        """
         self.refuse_loaded(_READS_GLOBALS if home.kind == "module" else _READS_LOCALS)
         if home.kind == "module":
             self.refuse_string(name)
@@ -240,7 +301,10 @@ class _Follower:
             self.value(load)
 
     def of_class(self, home: Scope, name: str) -> None:
-        """Follows a name that is bound in the body of a class."""
+        """Follows a name that the body of a class, the scope `home`, binds, both as a name and as an attribute of any object.
+
+        Raises Lost if the attribute may be bound elsewhere, or if the class has a decorator, a keyword or a foreign base.
+        """
         node = home.node
         if isinstance(node, ast.ClassDef) and (node.decorator_list or node.keywords):
             raise Lost(f"its class {node.name} is given to a decorator or a metaclass")
@@ -252,7 +316,11 @@ class _Follower:
         self.of_attribute(home, name)
 
     def of_instance(self, target: ast.Attribute) -> None:
-        """Follows `self.x` or `cls.x`."""
+        """Follows an attribute that a method binds, as `self.x = P` does.
+
+        Raises Lost if `target` isn't an attribute of a method's first parameter, or if another statement may bind the same
+        attribute of the class. Raises it too if the class has `__setattr__`, `__getattribute__`, a keyword or a foreign base.
+        """
         home = self.class_of(target)
         if home is None:
             raise Lost(f"it is put into an attribute in line {target.lineno}")
@@ -265,11 +333,13 @@ class _Follower:
         self.of_attribute(home, target.attr)
 
     def class_of(self, node: ast.Attribute) -> Optional[Scope]:
-        """Returns the scope of the class if the node is an attribute of the first parameter of a method, otherwise None."""
-        scope: Optional[Scope] = self.names.inside[node]
-        if not isinstance(node.value, ast.Name) or scope is None:
+        """Returns the scope of the class if `node` is an attribute of a method's first parameter, as `self.x` is; or None.
+
+        A function with the decorator `staticmethod` doesn't count, nor a lambda, nor a parameter that the method binds again.
+        """
+        if not isinstance(node.value, ast.Name):
             return None
-        scope = scope.home(node.value.id)
+        scope = self.names.inside[node].home(node.value.id)
         function = scope.node
         if not isinstance(function, FUNCTIONS) or isinstance(function, ast.Lambda) or scope.parent is None:
             return None
@@ -279,21 +349,27 @@ class _Follower:
         return scope.parent if scope.parent.kind == "class" and is_first and not static else None
 
     def of_attribute(self, home: Scope, name: str) -> None:
-        """Follows all attributes of that name in the file."""
+        """Follows all attributes in the file that are written `.name`, and notes the name, to be looked for in other files.
+
+        A private name such as `__x` of a class C is also followed as `_C__x`. Raises Lost if the file may read the attribute
+        in another way, such as by `vars` or `__dict__`.
+        """
         self.refuse_loaded(_READS_ATTRIBUTES)
         if "__dict__" in self.names.attributes:
             raise Lost("the file may read its attributes through __dict__")
         self.found.names.append(Name(name, True))
-        private = name.startswith("__") and not name.endswith("__") and isinstance(home.node, ast.ClassDef)
         self.attributes(name)
-        if private and isinstance(home.node, ast.ClassDef):
+        if isinstance(home.node, ast.ClassDef) and name.startswith("__") and not name.endswith("__"):
             mangled = f"_{home.node.name.lstrip('_')}{name}"
             for it in self.names.attributes.get(mangled, ()):
                 if it.attr == mangled:
                     self.attribute_load(it)
 
     def attributes(self, name: str) -> None:
-        """Follows all loads of attributes of that name."""
+        """Follows all loads in the file of attributes that are written `.name`, of any object.
+
+        Raises Lost if a string, `getattr`, `attrgetter` or `methodcaller` may name the attribute.
+        """
         self.refuse_string(name)
         self.refuse_open_getattr(name)
         self.refuse_open_attrgetter(name)
@@ -302,11 +378,16 @@ class _Follower:
                 self.attribute_load(it)
 
     def attribute_load(self, node: ast.Attribute) -> None:
+        """Follows an attribute if it is loaded, not stored or deleted."""
         if isinstance(node.ctx, ast.Load):
             self.value(node)
 
     def refuse_foreign_bases(self, home: Scope, seen: Set[Scope]) -> None:
-        """Raises Lost if a base of the class isn't in the file, since its methods may use what the class binds."""
+        """Raises Lost if a class has a keyword, such as a metaclass, or a foreign base, for which `class_named` gives None.
+
+        The methods of such a base may use what the class binds. The bases of the bases are checked too. `seen` are the classes
+        that were checked before; the ones that are checked now are added.
+        """
         seen.add(home)
         for base in getattr(home.node, "bases", ()):
             above = self.class_named(base, home)
@@ -318,7 +399,10 @@ class _Follower:
             raise Lost("its class has a metaclass")
 
     def class_named(self, base: ast.AST, home: Scope) -> Optional[Scope]:
-        """Returns the scope of a base class in this file, `home` if the base is a builtin class, otherwise None."""
+        """Returns the scope of the class in this file that `base`, an expression, names; otherwise None.
+
+        Returns `home`, the scope of the class that has the base, if the base is a builtin class other than `type`.
+        """
         if not isinstance(base, ast.Name):
             return None
         bound = self.meant(base)
@@ -330,16 +414,25 @@ class _Follower:
     # Ways to read a name without writing it
 
     def refuse_loaded(self, names: FrozenSet[str]) -> None:
+        """Raises Lost if the file loads one of these names as a builtin or as a name of the module.
+
+        Raises it too if `names` has `getmembers`, and the file has an attribute of that name.
+        """
         for it in names:
             if self.names.loads(self.names.module, it) or it == "getmembers" and it in self.names.attributes:
                 raise Lost(f"the file uses {it}, which may reach the pattern")
 
     def refuse_string(self, name: str) -> None:
+        """Raises Lost if a string literal of the file, outside of `__slots__`, is exactly the name."""
         if name in self.names.strings:
             raise Lost(f"the name {name} is in a string, as for getattr or __all__")
 
     def refuse_open_modules(self) -> None:
-        """Raises Lost if the file may get its own module from `sys.modules`."""
+        """Raises Lost if the file may get its own module from `sys.modules`.
+
+        It may unless each `modules` is compared, as in `"os" in modules`, or takes a constant key, as in `modules["os"]` and
+        `modules.get("os")`.
+        """
         nodes: List[ast.AST] = [*self.names.attributes.get("modules", ()), *self.names.loads(self.names.module, "modules")]
         for it in nodes:
             above = self.names.parents.get(it)
@@ -351,18 +444,24 @@ class _Follower:
                 raise Lost(f"sys.modules in line {getattr(it, 'lineno', 0)} may give the file itself")
 
     def refuse_open_attrgetter(self, name: str) -> None:
-        """Raises Lost if an `attrgetter` or `methodcaller` in the file may read an attribute of that name."""
+        """Raises Lost if an `attrgetter` or `methodcaller` in the file may read an attribute of that name.
+
+        It may unless it is called at once with string literals only, at least one, and none has the name between its dots.
+        """
         for it in ("attrgetter", "methodcaller"):
             nodes: List[ast.expr] = [*self.names.attributes.get(it, ()), *self.names.loads(self.names.module, it)]
             for node in nodes:
                 call = self.names.parents.get(node)
                 asked = call.args if isinstance(call, ast.Call) and call.func is node else []
-                told = [one.value for one in asked if isinstance(one, ast.Constant) and isinstance(one.value, str)]
-                if not asked or len(told) < len(asked) or any(name in one.split(".") for one in told):
+                texts = [one.value for one in asked if isinstance(one, ast.Constant) and isinstance(one.value, str)]
+                if not asked or len(texts) < len(asked) or any(name in one.split(".") for one in texts):
                     raise Lost(f"{it} in line {node.lineno} may take {name}")
 
     def refuse_open_getattr(self, name: str) -> None:
-        """Raises Lost if a `getattr` in the file may read an attribute of that name."""
+        """Raises Lost if a `getattr` in the file may read an attribute of that name.
+
+        It may unless it is called at once, with a second argument that surely isn't the name.
+        """
         for load in self.names.loads(self.names.module, "getattr"):
             call = self.names.parents.get(load)
             asked = call.args[1] if isinstance(call, ast.Call) and call.func is load and len(call.args) > 1 else None
@@ -372,7 +471,11 @@ class _Follower:
     # What the code sees of a match
 
     def seen(self, call: ast.Call, method: str) -> str:
-        """Returns what the code sees of the result of a call of that method."""
+        """Returns what the code sees of the result of `call`, a call of that method: TRUTH, SPANS or GROUPS.
+
+        For `sub` and `subn`, it is SPANS if the replacement is a literal without a backslash, otherwise GROUPS; for `findall`,
+        `finditer` and `split`, it is GROUPS.
+        """
         if method in ("match", "fullmatch", "search"):
             return self.seen_of(call)
         if method in ("sub", "subn"):
@@ -380,7 +483,10 @@ class _Follower:
         return GROUPS
 
     def seen_of(self, node: ast.AST) -> str:
-        """Returns what the code sees of a match that is the value of an expression."""
+        """Returns the most that the code sees of the match that is the value of an expression; GROUPS if that isn't known.
+
+        It is TRUTH too if the value isn't used at all.
+        """
         parent = self.names.parents.get(node)
         if self.is_tested(node) or isinstance(parent, ast.Expr):
             return TRUTH
@@ -393,6 +499,11 @@ class _Follower:
         return GROUPS
 
     def seen_by_name(self, target: ast.Name) -> str:
+        """Returns the most that the code sees of a match by the name it is bound to; TRUTH if the name is never loaded.
+
+        Returns GROUPS if the name isn't one of a function, if a load is neither tested nor followed by an attribute, or if the
+        name may be read in another way, such as by `locals()`.
+        """
         home = self.binding_home(target)
         hidden = any(self.names.loads(self.names.module, it) for it in _READS_LOCALS)
         if home.kind != "function" or hidden:
@@ -407,7 +518,10 @@ class _Follower:
         return max(kinds, key=_SEEN_ORDER.index)
 
     def is_tested(self, node: ast.AST) -> bool:
-        """Returns whether the code looks only at the truth of an expression, or at whether it is None."""
+        """Returns whether the code only tests whether the value of an expression is true, or whether it is None.
+
+        An `or` around it, or an `and` of which it is the last part, is looked through, and `bool(..)` is a test.
+        """
         parent = self.names.parents.get(node)
         while isinstance(parent, ast.BoolOp) and (isinstance(parent.op, ast.Or) or node is parent.values[-1]):
             node, parent = parent, self.names.parents.get(parent)
@@ -418,6 +532,7 @@ class _Follower:
 
 
 def _is_test(node: ast.AST, parent: Optional[ast.AST]) -> bool:
+    """Returns whether `parent` only tests whether the value of its child `node` is true, or whether it is None."""
     if isinstance(parent, (ast.If, ast.While, ast.IfExp, ast.Assert)):
         return parent.test is node
     if isinstance(parent, ast.UnaryOp):
@@ -435,6 +550,7 @@ def _is_test(node: ast.AST, parent: Optional[ast.AST]) -> bool:
 
 
 def _has_position(call: ast.Call, method: str) -> bool:
+    """Returns whether a call of a method of a pattern may give the argument `pos` or `endpos`; False if it takes neither."""
     if method not in PLACED:
         return False
     stars = any(isinstance(it, ast.Starred) for it in call.args) or any(it.arg is None for it in call.keywords)
@@ -442,11 +558,15 @@ def _has_position(call: ast.Call, method: str) -> bool:
 
 
 def _is_stored(node: ast.Attribute) -> bool:
+    """Returns whether an expression `x.NAME` binds or deletes the attribute, and doesn't load it."""
     return not isinstance(node.ctx, ast.Load)
 
 
 def _seen_by_member(node: ast.Attribute, parent: Optional[ast.AST]) -> str:
-    """What the code sees by an attribute of a match: only spans if it asks for no group."""
+    """Returns what the code sees by `node`, an attribute of a match, whose parent is given.
+
+    It is SPANS for a call of `start`, `end`, `span` or `group` without arguments or with the argument 0, otherwise GROUPS.
+    """
     if node.attr not in ("start", "end", "span", "group") or not isinstance(parent, ast.Call) or parent.func is not node:
         return GROUPS
     whole = all(isinstance(it, ast.Constant) and it.value == 0 for it in parent.args) and not parent.keywords
@@ -454,7 +574,10 @@ def _seen_by_member(node: ast.Attribute, parent: Optional[ast.AST]) -> str:
 
 
 def _is_plain_replacement(call: ast.Call, is_function: bool) -> bool:
-    """Whether the replacement of a `sub` is a literal without a backslash, which asks for no group."""
+    """Returns whether the replacement in a call of `sub` or `subn` is surely a literal text without a backslash.
+
+    `is_function` says that the function of `re` is called, which takes the replacement second; the method takes it first.
+    """
     at = 1 if is_function else 0
     given = [it.value for it in call.keywords if it.arg == "repl"] or call.args[at:at + 1]
     value = given[0].value if len(given) == 1 and isinstance(given[0], ast.Constant) else None
@@ -464,21 +587,22 @@ def _is_plain_replacement(call: ast.Call, is_function: bool) -> bool:
 
 
 def _is_other(asked: ast.AST, name: str) -> bool:
-    """Whether the value of an expression can't be `name`: it is another literal, or its text begins otherwise."""
-    fronts = list(_fronts(asked))
+    """Returns whether the value of an expression can't be the text `name`.
+
+    It can't if the expression is a literal of another text, or if `name` doesn't begin with the text that `_front` returns.
+    """
     if isinstance(asked, ast.Constant) and isinstance(asked.value, str):
         return asked.value != name
-    return bool(fronts) and not name.startswith(fronts[0])
+    return not name.startswith(_front(asked))
 
 
-def _fronts(asked: ast.AST) -> Iterator[str]:
-    """Yields the literal with which the text of an expression begins, if it begins with one."""
+def _front(asked: ast.AST) -> str:
+    """Returns a text with which the value of an expression, a text, begins: "get_" for `"get_" + x`; "" if unknown."""
     first: ast.AST = asked
     while isinstance(first, ast.BinOp) and isinstance(first.op, (ast.Add, ast.Mod)):
         first = first.left
     if isinstance(first, ast.JoinedStr) and first.values:
         first = first.values[0]
     if isinstance(first, ast.Constant) and isinstance(first.value, str):
-        front = first.value.partition("%")[0]
-        if front:
-            yield front
+        return first.value.partition("%")[0]
+    return ""

@@ -1,6 +1,6 @@
-"""Finds the names of one Python source: where each is bound, and which binding each load means.
+"""Finds the names of one Python source: which nodes bind them, and which scope's name each load may mean.
 
-The walk doesn't recurse, so a source may be nested as deeply as `ast` allows.
+The walk over the tree doesn't recurse, so a source may be nested as deeply as `ast` allows.
 """
 from __future__ import annotations
 
@@ -21,9 +21,9 @@ class Unparsed(Exception):
 
 
 def parsed(data: bytes) -> ast.Module:
-    """Returns the tree of a source in UTF-8. Raises Unparsed if the running Python can't read it.
+    """Returns the tree of a source. Raises Unparsed if it isn't UTF-8, or the running Python can't parse it.
 
-    A source that is large or deep is first parsed in a process of its own, so that a crash of the parser ends only that one.
+    A source that `is_small` denies is first parsed in a process of its own, so a crash of the parser there ends only that one.
     """
     try:
         text = data.decode("utf-8-sig")
@@ -39,12 +39,16 @@ def parsed(data: bytes) -> ast.Module:
 class Names:
     """The names that a source binds and loads.
 
-    `attributes` has the nodes `x.NAME` by NAME, and `strings` has the texts of all string literals. A private name in a class
-    counts both as it is written and as Python changes it: `__x` in a class C also counts as `_C__x`.
+    `tree` is the tree of the source, and `module` the scope of the module. `parents` has the parent of each node, `inside` the
+    scope in which the node is read, and `scopes` the scope that it opens, if any. `attributes` has the nodes `x.NAME` by NAME,
+    and `strings` the texts of all string literals outside of `__slots__`. `imports` has the import statements. `patterns` has
+    calls by the line (from 1) and the column (in bytes, from 0) where the first argument without a name, or the argument
+    `pattern`, begins; a call that has neither isn't in it.
+    A private name in a class counts both as it is written and as Python changes it: `__x` in a class C also counts as `_C__x`.
     """
 
     def __init__(self, data: bytes) -> None:
-        """Reads the source. Raises Unparsed."""
+        """Parses the source and walks over it. Raises Unparsed if it isn't UTF-8, or the running Python can't parse it."""
         self.tree = parsed(data)
         self.module = Scope("module", self.tree)
         self.scopes: Dict[ast.AST, Scope] = {self.tree: self.module}
@@ -67,13 +71,16 @@ class Names:
                 self._load(scope, name, load)
 
     def loads(self, scope: Scope, name: str) -> Sequence[ast.Name]:
-        """Returns the loads of a name that may mean the binding in that scope."""
+        """Returns the loads of a name that may mean the name of that scope; none if there is no such load.
+
+        A load of a name that isn't bound in the source, such as that of a builtin function, belongs to the scope `module`.
+        """
         return self._loads.get((scope, name), ())
 
     # The walk
 
     def _take(self, node: ast.AST, scope: Scope) -> None:
-        """Notes what a node loads or binds in its scope, or the scope that it opens, and queues its children."""
+        """Notes what a node loads or binds in `scope`, opens the node's own scope if it has one, and queues its children."""
         self.inside[node] = scope
         kind = scoping.kind_of(node)
         if kind is None:
@@ -96,7 +103,10 @@ class Names:
             self._left.append((part.node, inner if part.is_inside else scope))
 
     def _plain(self, node: ast.AST, scope: Scope) -> None:
-        """Notes what a node without a scope of its own loads or binds."""
+        """Notes what a node without a scope of its own adds to the fields, apart from its children.
+
+        That is a name that it loads, binds or declares in `scope`, an attribute, a string, an import or a call.
+        """
         if isinstance(node, ast.Name):
             self._name(node, scope)
         elif isinstance(node, ast.Attribute):
@@ -118,7 +128,7 @@ class Names:
                 self._bound.append((scope, given, node))
 
     def _is_slot(self, node: ast.AST) -> bool:
-        """Whether a string is in `__slots__`, where it only says that there is such an attribute."""
+        """Returns whether a string is assigned to the name `__slots__` by `=`, alone or directly in a tuple or list."""
         above = self.parents.get(node)
         if isinstance(above, (ast.Tuple, ast.List)):
             above = self.parents.get(above)
@@ -126,6 +136,10 @@ class Names:
         return any(isinstance(it, ast.Name) and it.id == "__slots__" for it in names)
 
     def _name(self, node: ast.Name, scope: Scope) -> None:
+        """Notes that `node`, read in `scope`, loads a name, or that it binds or deletes one, which both count as binding it.
+
+        The binding is noted for `scope`; the target of `:=` for the nearest scope from there on that isn't a comprehension.
+        """
         if isinstance(node.ctx, ast.Load):
             self._loaded.append((scope, node))
             return
@@ -134,11 +148,15 @@ class Names:
             self._bound.append((home, name, node))
 
     def _import(self, node: Union[ast.Import, ast.ImportFrom], scope: Scope) -> None:
+        """Notes an import statement, and the names that it binds in `scope`."""
         self.imports.append(node)
         self._bound += [(scope, name, it) for name, it in scoping.imported(node)]
 
     def _as_seen(self, name: str, scope: Scope) -> Tuple[str, ...]:
-        """The name and, if it is a private name in a class, the name to which Python changes it."""
+        """Returns the name and, if it is a private name such as `__x` in a class, also the name to which Python changes it.
+
+        `scope` is the scope in which it is read; the class is the nearest one from there on.
+        """
         at: Optional[Scope] = scope
         while at is not None and name.startswith("__") and not name.endswith("__"):
             if isinstance(at.node, ast.ClassDef) and at.kind == "class":
@@ -147,6 +165,10 @@ class Names:
         return (name,)
 
     def _load(self, scope: Scope, name: str, node: ast.Name) -> None:
+        """Notes a load, read in `scope`, for the scope in which the name is found, or for the module if it isn't found.
+
+        If that scope is the body of a class, the load may mean the name of the module too, so it is noted for both.
+        """
         home = scope.home(name)
         self._loads.setdefault((home, name), []).append(node)
         if home.kind == "class":

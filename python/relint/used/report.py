@@ -11,15 +11,18 @@ from .follow import MODES, mode_of
 from .run import Run
 from .sites import Follower, Used
 
+# Returns the source and the pattern of an entry; what can't be read or found is None.
 Behind = Callable[[Entry], Tuple[Optional[Source], Optional[Site]]]
 
 
 def as_used(entries: Sequence[Entry], compile_as: str, behind: Behind, run: Run, max_pairs: Optional[int] = None
             ) -> Dict[Entry, AsUsed]:
-    """Returns how the patterns of entries are used, and their classes under these uses, as far as the uses are known.
+    """Returns for each entry whose uses are known how its pattern is used, and the class under each use.
 
-    `compile_as` is the mode in which the report judges `compile`. `behind` returns the source and the pattern of an entry.
-    `run` has the files of the run, with those of the entries. Raises ProgramError if relint can't be asked.
+    An entry is left out if it wasn't judged, or if its source, pattern, place, flags or uses aren't known. `compile_as` is the
+    mode in which the report judges `compile`. `behind` returns the source and the pattern of an entry. `run` has the files in
+    which uses are looked for, which include those of the entries. `max_pairs` is relint's limit of live pairs; None is
+    relint's own default. Raises ProgramError if relint can't be asked.
     """
     wanted: List[Tuple[Entry, Source, Site, str]] = []
     for entry in entries:
@@ -38,12 +41,17 @@ def as_used(entries: Sequence[Entry], compile_as: str, behind: Behind, run: Run,
 
 
 def _at(entry: Entry, other: Optional[Entry]) -> Optional[Entry]:
-    """The entry for a pattern in another mode, moved to the place of `entry` and without places inside the pattern."""
+    """Returns `other`, an entry for the pattern of `entry` in another mode, with the path, the place and the call of `entry`.
+
+    Places inside the pattern are left out, since those in `other` are of the source that was made to judge it. Returns None if
+    `other` is None.
+    """
     if other is None:
         return None
-    return replace(other, path=entry.path, place=entry.place, call=entry.call, fault=None, dropped=(), merged=(), passed=())
+    own = replace(other, path=entry.path, place=entry.place, call=entry.call)
+    return replace(own, fault=None, dropped=(), merged=(), over_limit=())
 
 
 def _others(entry: Entry, used: Used, compile_as: str) -> FrozenSet[str]:
-    """The modes of the uses, except the one in which the entry is judged already."""
+    """Returns the modes of the uses, except the one in which the report judges the entry; there may be none."""
     return used.modes() - {mode_of(entry.call, compile_as)}

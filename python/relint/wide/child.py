@@ -1,6 +1,8 @@
 """Looks into one file after the other; relint-wide runs this in processes of their own.
 
-The first line of standard input has the settings. Each line after it names a file, and is answered by one line.
+All lines are JSON. The first line of standard input has the settings: the paths of the run, the rows of takers, the folders
+that files lie in, and the limits. Each line after it has the path of a file, and is answered by one line with what was found.
+If it also has names, the answer is only what the file binds in other files, if one of the names occurs in it.
 """
 from __future__ import annotations
 
@@ -17,13 +19,20 @@ DEEPEST = 20_000
 
 
 def limit(memory: int) -> None:
-    """Limits the memory of this process, and keeps it from writing a core file."""
+    """Limits the address space of this process to `memory` bytes, and keeps it from writing a core file.
+
+    Raises ValueError or OSError if the limits can't be set.
+    """
     resource.setrlimit(resource.RLIMIT_AS, (memory, memory))
     resource.setrlimit(resource.RLIMIT_CORE, (0, 0))
 
 
 def work() -> None:
-    """Answers each line of standard input."""
+    """Reads the settings, and answers each further line of standard input until its end.
+
+    SIGPROF ends the process if one answer takes more than the seconds of processor time that the settings allow. Raises
+    TakersError if a row of takers in the settings is wrong.
+    """
     begin: Dict[str, Any] = json.loads(sys.stdin.readline())
     limit(begin["memory"])
     sys.path.insert(0, str(Path(__file__).resolve().parents[2]))
@@ -42,7 +51,10 @@ def work() -> None:
 
 
 def main() -> None:
-    """Does the work in a thread with a large stack, so that deep sources can be read."""
+    """Runs `work` in a thread with a stack of STACK bytes, with DEEPEST as the limit of recursion, and waits for its end.
+
+    An exception in the thread is only written to standard error; the exit status is 0 all the same.
+    """
     sys.setrecursionlimit(DEEPEST)
     threading.stack_size(STACK)
     thread = threading.Thread(target=work)

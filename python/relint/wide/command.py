@@ -36,7 +36,10 @@ def parser() -> Parser:
 
 
 def add_limits(found: argparse.ArgumentParser) -> None:
-    """Adds the options for trials."""
+    """Adds the options for trials to the parser `found`: --no-trials, --seconds, --longest and --memory.
+
+    In a trial, a pattern that relint refuses or can't decide is matched with texts made for it.
+    """
     found.add_argument("--no-trials", action="store_true", help="don't try patterns that relint doesn't analyse")
     found.add_argument("--seconds", type=_seconds, default=1.0, metavar="S",
                        help="the processor time that a match has to pass to be shown as seen to hang (1)")
@@ -47,6 +50,7 @@ def add_limits(found: argparse.ArgumentParser) -> None:
 
 
 def _seconds(text: str) -> float:
+    """The value of --seconds, given as `text`. Raises argparse.ArgumentTypeError unless it is a number from 0.01 to 3600."""
     try:
         value = float(text)
     except ValueError:
@@ -57,12 +61,18 @@ def _seconds(text: str) -> float:
 
 
 def limits_of(given: argparse.Namespace) -> Optional[Limits]:
-    """Returns the limits of each trial, or None if nothing is to be tried."""
+    """Returns the limits of each trial that the options `given` ask for, or None if they have --no-trials.
+
+    A megabyte of --memory is 1,000,000 bytes.
+    """
     return None if given.no_trials else Limits(given.seconds, given.longest, given.memory * 1_000_000)
 
 
 def added_takers(file: str) -> Tuple[List[Mapping[str, Any]], List[str]]:
-    """Returns the rows that a file adds to the table, and a line for each that is wrong. Raises GatherError."""
+    """Returns the right rows of a TOML file, to add to the table of takers, and a line for each wrong row, which is left out.
+
+    Raises GatherError if the file can't be read as a table of takers.
+    """
     try:
         right, wrong = read_takers(file)
     except TakersError as error:
@@ -71,7 +81,12 @@ def added_takers(file: str) -> Tuple[List[Mapping[str, Any]], List[str]]:
 
 
 def summary(counts: Counts, found: Looked) -> Iterator[str]:
-    """Yields the lines of the summary: the counts, the reasons why patterns aren't known, and what wasn't read."""
+    """Yields the lines of the summary: the counts, the reasons why patterns aren't known, and the files that weren't read.
+
+    Of the findings in `found`, only those that a use reaches are counted. At most the MOST_REASONS most common reasons are
+    named, and at most MOST_UNREAD files or notebook cells; a last line says how many more weren't read. Without reasons or
+    such files, their lines are missing.
+    """
     kinds = [it.entry.beyond.kind for it in found.reached if it.entry.beyond is not None]
     yield (f"beyond: {plain.counted(kinds.count(ELSEWHERE), 'finding')} judged elsewhere, {kinds.count(HANG):,} seen to hang "
            f"(of {plain.counted(counts.tried, 'pattern')} tried)")
@@ -90,7 +105,10 @@ def summary(counts: Counts, found: Looked) -> Iterator[str]:
 
 
 def _finder(given: argparse.Namespace) -> WideFinder:
-    """The finder, with the rows of the configuration and of --takers. Wrong rows are named on standard error."""
+    """The finder, with the right rows of the configuration and of --takers. Wrong rows are named on standard error.
+
+    Raises GatherError if the configuration or the file of --takers can't be read.
+    """
     rows, wrong = rows_of(gather.found_config(given))
     if given.takers is not None:
         more, lines = added_takers(given.takers)
@@ -101,12 +119,16 @@ def _finder(given: argparse.Namespace) -> WideFinder:
 
 
 def _lines(given: argparse.Namespace) -> Tuple[Iterator[str], int]:
-    """The lines to write for the command line, and the exit status. Raises GatherError and ProgramError."""
+    """The lines to write for the command line, in its format, and the exit status. Writes notes to standard error.
+
+    Raises GatherError if the report would come from standard input, or if there is no report; and ProgramError if relint
+    can't be run.
+    """
     if gather.reads_input(given, gather.found_config(given)):
         raise gather.GatherError("name a path: files and folders to look at")
     finder = _finder(given)
     found = gather.gathered(given, finder)
-    gather.tell(NAME, found)
+    gather.write_notes(NAME, found)
     sources = Sources(found.folders)
     looked = looked_at(found, sources, most=given.most)
     if given.format == "json":
@@ -119,6 +141,11 @@ def _lines(given: argparse.Namespace) -> Tuple[Iterator[str], int]:
 
 
 def _work(given: argparse.Namespace) -> int:
+    """Writes the configuration, with --show-config, or else the lines of `_lines`, and returns the exit status.
+
+    The lines go to the file of --output, or to standard output without it. Raises what `_lines` raises, and Unwritten if
+    standard output can't be written.
+    """
     if given.show_config:
         return gather.show_config(given)
     lines, status = _lines(given)
@@ -126,7 +153,11 @@ def _work(given: argparse.Namespace) -> int:
 
 
 def main(words: Optional[Sequence[str]] = None) -> int:
-    """Runs the tool with the words of the command line, and returns the exit status."""
+    """Runs the tool with the words of the command line, or those in `sys.argv` if `words` is None.
+
+    Returns the exit status: 1 if there is a finding, 0 if there is none, otherwise that of an error, of which a line on
+    standard error says what it is. Help, the version and a mistake in the words raise SystemExit.
+    """
     given = gather.parsed(parser(), words)
     return gather.ended(NAME, lambda: _work(given))
 

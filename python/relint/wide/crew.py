@@ -13,7 +13,7 @@ import subprocess
 import sys
 import threading
 from pathlib import Path
-from typing import Any, Dict, Iterable, Iterator, List, Optional, Sequence, Tuple
+from typing import Any, Dict, Iterator, Optional, Sequence, Tuple
 
 CHILD = str(Path(__file__).with_name("child.py"))
 READ_AT_A_TIME = 1 << 16
@@ -25,17 +25,22 @@ PATIENCE = 20
 
 
 class Crew:
-    """A number of children with the same task. `begin` is sent to each child first.
-
-    `seconds` is the processor time that one piece may take, and `memory` is how many bytes a child may use.
-    """
+    """Child processes with the same settings, each of which runs `child.py` and does pieces of work."""
 
     def __init__(self, begin: Dict[str, Any], jobs: int, seconds: float, memory: int) -> None:
+        """Takes the settings `begin` for each child, and how many children run at the same time at most, which must be over 0.
+
+        `seconds` is the processor time that one piece may take, and `memory` is how many bytes a child may use; both are added
+        to the settings. No child is started yet.
+        """
         self._begin = json.dumps({**begin, "memory": memory, "seconds": seconds}).encode("ascii") + b"\n"
         self._jobs, self._seconds = jobs, seconds
 
     def answers(self, pieces: Sequence[Any]) -> Iterator[Tuple[Any, str]]:
-        """Yields the answer to each piece, in order, with ""; or None with the reason why there is no answer."""
+        """Yields the answer to each piece, in order, with ""; or None with the reason why there is no answer.
+
+        Pieces and answers are values of JSON. Children are started when the first answer is asked for.
+        """
         todo: "queue.SimpleQueue[Tuple[int, Any]]" = queue.SimpleQueue()
         done: "queue.SimpleQueue[Tuple[int, Any, str]]" = queue.SimpleQueue()
         for it in enumerate(pieces):
@@ -50,7 +55,11 @@ class Crew:
             yield kept.pop(number)
 
     def _work(self, todo: Any, done: Any) -> None:
-        """Has a child do pieces from `todo` until none is left, and puts the answers in `done`. Each thread runs this."""
+        """Has a child do pieces from `todo` until none is left, and puts the answers in `done`. Each thread runs this.
+
+        A piece comes with its number, and an answer with that number and the reason why there is none, or "". A child that
+        gave no answer is ended, and the next piece gets a new one. An OSError gives the reason that no child can be started.
+        """
         child: Optional[_Child] = None
         while True:
             try:
@@ -71,21 +80,26 @@ class Crew:
 
 
 class _Child:
-    """One child process, which gets one line for each piece and answers each by one line."""
+    """One child process, which gets a line with the settings, then a line for each piece, and answers each piece by a line."""
 
     def __init__(self, begin: bytes) -> None:
+        """Starts the child, and sends it the line `begin`. Raises OSError if it can't be started or has ended already."""
         words = [sys.executable, "-I", CHILD]
         self._process = subprocess.Popen(words, stdin=subprocess.PIPE, stdout=subprocess.PIPE, stderr=subprocess.DEVNULL)
-        self._rest = b""
         self._tell(begin)
 
     def _tell(self, line: bytes) -> None:
+        """Sends the child a line, given with its line end. Raises BrokenPipeError if the child has ended."""
         assert self._process.stdin is not None
         self._process.stdin.write(line)
         self._process.stdin.flush()
 
     def ask(self, piece: Any, seconds: float) -> Tuple[Any, str]:
-        """Returns the answer to a piece and "", or None and the reason why there is no answer."""
+        """Returns the answer to a piece and "", or None and the reason why there is no answer.
+
+        If there is no answer, the child mustn't be asked again. `seconds` is the processor time after which the child ends
+        itself; the piece is given up too if the child writes nothing for PATIENCE times `seconds` by the clock.
+        """
         try:
             self._tell(json.dumps(piece).encode("ascii") + b"\n")
             line = self._line(seconds * PATIENCE)
@@ -102,9 +116,13 @@ class _Child:
             return None, DIED.format(-status) if status < 0 else f"the process that read it ended with status {status}"
 
     def _line(self, seconds: float) -> Optional[bytes]:
-        """The next line of the child; None if nothing comes in time; b"" if the child ended or the line is too long."""
+        """The next line of the child, with its line end; None if the child writes nothing for `seconds` by the clock.
+
+        If the child ends before the line does, or the line has more than LARGEST_ANSWER bytes, the child is killed and b"" is
+        returned.
+        """
         assert self._process.stdout is not None
-        parts: List[bytes] = [self._rest]
+        parts = [b""]
         size = 0
         with selectors.DefaultSelector() as selector:
             selector.register(self._process.stdout, selectors.EVENT_READ)
@@ -120,11 +138,6 @@ class _Child:
         return b"".join(parts)
 
     def end(self) -> None:
-        """Kills the child."""
+        """Kills the child, and waits until it has ended."""
         self._process.kill()
         self._process.communicate()
-
-
-def in_order(crew: Crew, pieces: Iterable[Any]) -> List[Tuple[Any, str]]:
-    """Returns the answers to all pieces, in order."""
-    return list(crew.answers(list(pieces)))

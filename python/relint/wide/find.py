@@ -1,4 +1,7 @@
-"""Finds the expressions of a source that are given as patterns, to `re` or to a function or class in the table of takers."""
+"""Finds the expressions of a source that are given as patterns: to `re`, or to a function or class in the table of takers.
+
+A taker is a row of that table: a function, a method or an attribute that takes a pattern.
+"""
 from __future__ import annotations
 
 import ast
@@ -6,10 +9,11 @@ import fnmatch
 from dataclasses import dataclass, replace
 from typing import Any, Dict, Iterator, List, Optional, Sequence, Tuple
 
+from ..beyond import Holder
 from ..reports import Place, Text
 from ..sites import FLAGS_AT, LINE_END
-from .fold import Folder
-from .known import Held, Known, NotKnown, Varies
+from .fold import ConstantFolder
+from .known import Known, NotKnown, Varies
 from .modules import Module
 from .scopes import Binding, Scope, last_name
 from .takers import Taker
@@ -20,12 +24,14 @@ NO_RULES = ("t_ignore", "t_error", "t_eof", "t_literals")
 
 @dataclass(frozen=True)
 class Found:
-    """An expression that a source gives as a pattern.
+    """An expression that a source gives as a pattern, with one value that it has.
 
-    `pattern` and `flags` are None if they aren't known; `why` names the reason. `call` is the function of `re` that has the
-    same mode, and `taker` is what really takes the pattern. `is_literal` says that the expression is a plain literal, which
-    relint can read itself. `needs` are the names that no other file may bind, as in `Known`. `cell` is the number of the cell
-    in a notebook.
+    `path` is the file, `start` is the place of the literal with which the expression begins, or else of the expression, and
+    `end` is where the expression ends. `pattern` and `flags` are both None if either isn't known, and `why` then gives the
+    reason; otherwise `why` is "". `call` is the function of `re` that has the same mode, and `taker` names what really takes
+    the pattern. `holders` (the names that hold parts of the pattern), `notes` and `needs` are as in `Known`. `is_literal` says
+    that the expression is one text or bytes literal, outside of a notebook. `engine` is "re" or "regex". `cell` is the number
+    of the cell in a notebook, from 1, or None outside of notebooks.
     """
 
     path: str
@@ -35,7 +41,7 @@ class Found:
     taker: str
     pattern: Optional[Text] = None
     flags: Optional[int] = None
-    held: Tuple[Held, ...] = ()
+    holders: Tuple[Holder, ...] = ()
     notes: Tuple[str, ...] = ()
     needs: Tuple[Tuple[str, str], ...] = ()
     why: str = ""
@@ -47,7 +53,8 @@ class Found:
 class Finder:
     """Finds the patterns of modules, one module after the other."""
 
-    def __init__(self, folder: Folder, takers: Sequence[Taker]) -> None:
+    def __init__(self, folder: ConstantFolder, takers: Sequence[Taker]) -> None:
+        """Takes what folds the expressions, and the table of takers."""
         self._folder = folder
         self._calls: Dict[str, List[Taker]] = {}
         self._methods: Dict[str, List[Taker]] = {}
@@ -59,7 +66,10 @@ class Finder:
                 self._methods.setdefault(taker.method.rpartition(".")[2], []).append(taker)
 
     def find(self, module: Module) -> List[Found]:
-        """Returns what a module gives as patterns, sorted by place."""
+        """Returns what a module gives as patterns, known or not, sorted by line and column.
+
+        An expression that depends on loops comes once for each different pair of pattern and flags.
+        """
         self._folder.begin()
         one = _One(module, self._folder)
         found = [it for call, scope in module.scopes.calls for it in self._of_call(one, call, scope)]
@@ -69,7 +79,11 @@ class Finder:
         return sorted(found, key=lambda it: (it.start.line, it.start.column))
 
     def _of_call(self, one: "_One", call: ast.Call, scope: Scope) -> Iterator[Found]:
-        """Yields the patterns of a call, if it is a call of `re` or of a taker."""
+        """Yields the patterns of a call, if it is a call of `re` or of a taker; otherwise nothing.
+
+        If a taker fits by its method, only the first such taker counts. Otherwise `re` and all takers with the full name of
+        the called function count.
+        """
         name = call.func.attr if isinstance(call.func, ast.Attribute) else ""
         for taker in self._methods.get(name, ()):
             if one.imports(taker.needs) and one.is_method(call.func, taker.method) and one.fits(taker, call, scope):
@@ -86,18 +100,25 @@ class Finder:
 
 
 class _One:
-    """Answers the questions about one module."""
+    """Answers the questions about one module: which calls fit a taker, and what they give as patterns.
 
-    def __init__(self, module: Module, folder: Folder) -> None:
+    In the methods, `scope` is the scope in which the call or the expression is read.
+    """
+
+    def __init__(self, module: Module, folder: ConstantFolder) -> None:
+        """Takes the module, and what folds its expressions."""
         self.module, self.folder = module, folder
         self.lines = LINE_END.split(module.text)
 
     def imports(self, name: str) -> bool:
-        """Returns whether the module imports another one, or a part of it, anywhere; True for ""."""
+        """Returns whether the module imports, anywhere, the top-level module `name` or a part of it; True for ""."""
         return not name or name in self.module.scopes.imported
 
     def is_method(self, function: ast.expr, method: str) -> bool:
-        """Returns whether a called expression is an object followed by the dotted names of `method`."""
+        """Returns whether a called expression is an object followed by the dotted names of `method`, as `x.str.match` is.
+
+        If `method` is a single name, the object mustn't be the name `re`.
+        """
         names = method.split(".")
         for name in reversed(names):
             if not isinstance(function, ast.Attribute) or function.attr != name:
@@ -106,7 +127,10 @@ class _One:
         return len(names) > 1 or not isinstance(function, ast.Name) or function.id != "re"
 
     def fits(self, taker: Taker, call: ast.Call, scope: Scope) -> bool:
-        """Returns whether a call has the keyword arguments that the taker demands, and none that it excludes."""
+        """Returns whether a call has all keyword arguments in the taker's `when`, with their values, and none in its `unless`.
+
+        An argument in `unless` excludes the call if its value is the one there, None, or not known.
+        """
         given = {it.arg: it.value for it in call.keywords if it.arg}
         for name, value in taker.unless:
             if name in given and self._constant(given[name], scope) in (value, None):
@@ -114,27 +138,36 @@ class _One:
         return all(name in given and self._constant(given[name], scope) == value for name, value in taker.when)
 
     def _constant(self, node: ast.AST, scope: Scope) -> Any:
-        """The value of an expression, or None if it isn't known."""
+        """The value of an expression; None if it isn't known, or is None."""
         try:
             return self.folder.fold(node, scope, self.module).value
         except NotKnown:
             return None
 
     def place(self, line: int, column: int) -> Place:
-        """Returns the place of a position in `ast`, where columns count bytes and begin at 0."""
+        """Returns the place of a position of `ast`, whose lines count from 1, and whose columns count bytes of UTF-8 from 0.
+
+        A place has the same line, and its column counts code points from 1.
+        """
         text = self.lines[line - 1] if line <= len(self.lines) else ""
         if text.isascii():
             return Place(line, column + 1)
         return Place(line, len(text.encode("utf-8", "surrogatepass")[:column].decode("utf-8", "replace")) + 1)
 
     def of_re(self, name: str, call: ast.Call, scope: Scope) -> List[Found]:
-        """Returns what a call of a function of `re` gives as its pattern: one, or one for each item of a loop."""
+        """Returns what a call of the function `name` of `re` gives as patterns, as `_found` does.
+
+        If the call has no argument for the pattern, the only item says so in `why`.
+        """
         node = _argument(call, 0, ("pattern",))
         flags = _argument(call, FLAGS_AT[name], ("flags",))
         return self._found(node or call, scope, name, "re." + name, flags, node is None)
 
     def of_taker(self, taker: Taker, call: ast.Call, scope: Scope) -> Iterator[Found]:
-        """Yields what a call of a taker gives as patterns."""
+        """Yields what a call of a taker gives as patterns; nothing if it has no such argument, or the constant None for it.
+
+        If the taker's `is_list` is set, each item of a list or tuple written there is a pattern, except None.
+        """
         node = _argument(call, taker.pattern, taker.keywords)
         if node is None:
             return
@@ -148,10 +181,12 @@ class _One:
         self, node: ast.expr, scope: Scope, call: str, name: str, flags: Optional[ast.AST], is_missing: bool,
         taker: Optional[Taker] = None,
     ) -> List[Found]:
-        """What is known of an expression that is given as a pattern: one or, in loops, one for each different pattern.
+        """What is known of the expression `node` that is given as a pattern.
 
-        If the pattern isn't known, the only one has the reason in `why`. `is_missing` says that the call has no argument for
-        the pattern.
+        This is one `Found` or, if loops are gone through, one for each different pair of pattern and flags. If these aren't
+        known, the only one has the reason in `why`. `call` and `name` are the fields `call` and `taker` of `Found`. `flags` is
+        the expression that gives the flags, or None. `is_missing` says that the call has no argument for the pattern; then
+        `node` is the call itself. `taker` is None if `re` takes the pattern.
         """
         first = _first_literal(node)
         start = self.place(first.lineno, first.col_offset)
@@ -160,6 +195,10 @@ class _One:
         empty = Found(self.module.path, start, end, call, name, is_literal=is_literal, engine=taker.engine if taker else "re")
 
         def fold() -> Found:
+            """Returns the pattern at the present items of the loops.
+
+            Raises NotKnown if the call has no argument for it, or if the pattern or its flags aren't known.
+            """
             if is_missing:
                 raise NotKnown("no pattern argument")
             known = self.folder.fold(node, scope, self.module)
@@ -174,7 +213,11 @@ class _One:
         return list({(it.pattern, it.flags): it for it in reversed(found)}.values())[::-1]
 
     def _flags(self, node: Optional[ast.AST], scope: Scope, taker: Optional[Taker]) -> Tuple[int, List[Known]]:
-        """The flags that an expression gives, and what is known of it. Raises NotKnown."""
+        """The flags that the expression `node` gives, and a list with its value.
+
+        If `node` is None, or its value is None and there is a taker, these are the taker's own flags (0 if there is no taker)
+        and an empty list. Raises NotKnown if the flags aren't a known whole number.
+        """
         if node is None:
             return (taker.always if taker else 0), []
         try:
@@ -190,7 +233,10 @@ class _One:
         return int(known.value), [known]
 
     def of_attribute(self, taker: Taker) -> Iterator[Found]:
-        """Yields the patterns held by names that fit the taker: in classes and, if the taker names no class, in the module."""
+        """Yields the patterns that names fitting the taker hold in the bodies of classes with a base in `taker.classes`.
+
+        If `taker.classes` is empty, these are the names in the bodies of all classes and at the top level of the module.
+        """
         for node, _ in self.module.scopes.classes:
             inside = self.module.scopes.inner[node]
             if taker.classes and not _is_base(node, taker.classes):
@@ -200,7 +246,11 @@ class _One:
             yield from self._of_body(taker, self.module.scopes.module)
 
     def _of_body(self, taker: Taker, inside: Scope) -> Iterator[Found]:
-        """Yields the patterns held by the names of one scope that fit the taker."""
+        """Yields the patterns that the names of the scope `inside` hold, if they fit the taker and are bound once.
+
+        Names in NO_RULES are left out, and values known to be neither text nor bytes. The flags are those that the name
+        `taker.flags_keyword` holds in the same scope, if it is bound once there.
+        """
         for name, bindings in inside.bindings.items():
             if not fnmatch.fnmatchcase(name, taker.attribute) or len(bindings) != 1 or name in NO_RULES:
                 continue
@@ -213,7 +263,10 @@ class _One:
 
 
 def _argument(call: ast.Call, position: int, names: Sequence[str]) -> Optional[ast.expr]:
-    """The argument of a call with one of the names or at the position; None if it isn't there or a star hides it."""
+    """The first argument of a call with one of the names, or else the one at the position, from 0; None if there is none.
+
+    A position below 0 is none. An argument with a star, or behind one with a star, isn't found by its position.
+    """
     for it in call.keywords:
         if it.arg and it.arg in names:
             return it.value
@@ -223,7 +276,10 @@ def _argument(call: ast.Call, position: int, names: Sequence[str]) -> Optional[a
 
 
 def _first_literal(node: ast.expr) -> ast.expr:
-    """The literal with which an expression begins, or the expression itself if it begins with no literal."""
+    """The text, bytes or f-string literal that is the leftmost operand of an expression, as in `"a" + b`, or `node` itself.
+
+    If the leftmost operand is a call of a method, as in `"a".join(b)`, the object of the method counts in its place.
+    """
     first = node
     while isinstance(first, ast.BinOp):
         first = first.left
@@ -234,11 +290,17 @@ def _first_literal(node: ast.expr) -> ast.expr:
 
 
 def _is_base(node: ast.ClassDef, names: Sequence[str]) -> bool:
+    """Whether one of the names is the last part of the name of a base of the class; the base `a.B(1)` has the name "B"."""
     return any(last_name(it) in names for it in node.bases)
 
 
 def _held_by(shape: str, binding: Binding) -> Iterator[ast.expr]:
-    """Yields the expressions of the patterns that a binding holds, as the shape in the table says."""
+    """Yields the expressions of the patterns that a binding holds; nothing if it holds none in the given shape.
+
+    With the shape "text" it is the expression of the value. With "rules" it is that, or the pattern of a PLY rule that is a
+    function. With "tokens" the value is a Pygments table, a dictionary of lists or tuples of tuples, each of which begins with
+    a pattern; tuples with one item are left out.
+    """
     node: Any = binding.node
     if shape == "rules" and binding.kind == "function":
         yield from _rule_of(node)
@@ -254,7 +316,11 @@ def _held_by(shape: str, binding: Binding) -> Iterator[ast.expr]:
 
 
 def _rule_of(node: Any) -> Iterator[ast.expr]:
-    """Yields the pattern of a PLY rule that is a function: the argument of its decorator TOKEN, or else its docstring."""
+    """Yields the expression of the pattern of a PLY rule, which is the function `node`.
+
+    It is the first positional argument of the first decorator `TOKEN(..)` that has one, or else the constant that is the first
+    statement of the body, a docstring or any other, such as `...`. Yields nothing if there is neither.
+    """
     for it in getattr(node, "decorator_list", []):
         if isinstance(it, ast.Call) and last_name(it) == "TOKEN" and it.args:
             yield it.args[0]
@@ -265,8 +331,11 @@ def _rule_of(node: Any) -> Iterator[ast.expr]:
 
 
 def _filled(empty: Found, text: Text, flags: int, parts: Sequence[Known], taker: Optional[Taker]) -> Found:
-    """`empty` with a pattern and flags, and with the names, notes and needs of the parts that they come from."""
-    held = tuple(dict.fromkeys(it for part in parts for it in part.held))
+    """`empty` with a pattern and flags, with the names, notes and needs of the `parts` that they come from, each once.
+
+    The note of the taker comes last, if it has one. Needs are sorted; those with an empty part are left out.
+    """
+    holders = tuple(dict.fromkeys(it for part in parts for it in part.holders))
     notes = [it for part in parts for it in part.notes] + ([taker.note] if taker and taker.note else [])
     needs = sorted({it for part in parts for it in part.needs if it[1] and it[0]})
-    return replace(empty, pattern=text, flags=flags, held=held, notes=tuple(dict.fromkeys(notes)), needs=tuple(needs))
+    return replace(empty, pattern=text, flags=flags, holders=holders, notes=tuple(dict.fromkeys(notes)), needs=tuple(needs))

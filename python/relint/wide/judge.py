@@ -21,12 +21,12 @@ LONGEST_PATTERN = 100_000
 
 
 class JudgeError(Exception):
-    """Raised if relint gave no report on the patterns; the message says why."""
+    """Raised if relint gave no report on the patterns, or one that doesn't fit them; the message says which."""
 
 
 @dataclass(frozen=True)
 class Question:
-    """A pattern with its flags, and the mode in which it is used: search, match or fullmatch."""
+    """A pattern with its flags, as a number, and the mode in which it is used: search, match or fullmatch."""
 
     pattern: Text
     flags: int
@@ -39,14 +39,15 @@ def flag_words(flags: int) -> str:
 
 
 def source_line(question: Question) -> str:
-    """Returns a line of Python that asks a question by a call with a literal."""
+    """Returns a line of Python that asks a question, such as `re.search("a*b", t, re.I)`, with its line end."""
     return f"re.{question.mode}({plain.quoted(question.pattern)}, t, {flag_words(question.flags)})\n"
 
 
 def judged(questions: Iterable[Question], options: Sequence[str], jobs: int) -> Dict[Question, Entry]:
-    """Returns relint's entry for each question, without path and places. Raises JudgeError and ProgramError.
+    """Returns relint's entry for each question, without path and places. `options` are further options of `relint check`.
 
-    relint isn't asked about a pattern longer than LONGEST_PATTERN; its entry is the one that relint would give.
+    At most `jobs` runs go on at the same time, at least one. relint isn't asked about a pattern of more than LONGEST_PATTERN
+    characters or bytes; its entry is refused as too long. Raises JudgeError, and ProgramError if relint can't be run.
     """
     distinct = list(dict.fromkeys(questions))
     found = {it: Entry("", "refused", call=it.mode, cause="too-long") for it in distinct if len(it.pattern) > LONGEST_PATTERN}
@@ -59,7 +60,10 @@ def judged(questions: Iterable[Question], options: Sequence[str], jobs: int) -> 
 
 
 def _parts(questions: Sequence[Question]) -> Iterator[List[Question]]:
-    """Yields the questions in parts, each for one run."""
+    """Yields the questions in order, in parts that are each for one run.
+
+    A part ends once it has MOST_AT_ONCE questions, or MOST_BYTES bytes if each character or byte of a pattern counts as ten.
+    """
     part: List[Question] = []
     size = 0
     for it in questions:
@@ -73,7 +77,11 @@ def _parts(questions: Sequence[Question]) -> Iterator[List[Question]]:
 
 
 def _asked(path: str, questions: Sequence[Question], options: Sequence[str]) -> List[Entry]:
-    """relint's entries for the questions, in order, by one run over the file `path`, which this writes. Raises JudgeError."""
+    """relint's entries for the questions, in order, by one run over the file `path`, which this writes.
+
+    Raises JudgeError if relint gives no report, or not one entry for each question; ProgramError if it can't be run; and
+    OSError if the file can't be written.
+    """
     Path(path).write_text("import re\n" + "".join(map(source_line, questions)), encoding="ascii")
     answer = program.run(["check", "--format", "json", "--report", "2", *options, "--", path])
     try:
@@ -87,4 +95,5 @@ def _asked(path: str, questions: Sequence[Question], options: Sequence[str]) -> 
 
 
 def _without_places(entry: Entry) -> Entry:
-    return replace(entry, path="", place=None, fault=None, dropped=(), merged=(), passed=())
+    """The entry with an empty path and without places, which are those of the file that this module wrote."""
+    return replace(entry, path="", place=None, fault=None, dropped=(), merged=(), over_limit=())

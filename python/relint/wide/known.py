@@ -5,6 +5,7 @@ import ast
 from dataclasses import dataclass, field, replace
 from typing import Any, FrozenSet, Iterable, List, Mapping, Tuple, Union
 
+from ..beyond import Holder
 from .scopes import Binding, Scope
 
 LONGEST_TEXT = 100_000
@@ -13,21 +14,24 @@ LARGEST_NUMBER = 1 << 64
 
 
 class NotKnown(Exception):
-    """Raised if a value can't be told from the sources; `why` names the kind of reason in a word or two."""
+    """Raised if the value of an expression isn't known from the sources; `why` gives the kind of reason in a few words."""
 
     def __init__(self, why: str) -> None:
+        """Takes the reason, such as "bound more than once"."""
         super().__init__(why)
         self.why = why
 
 
 class Varies(NotKnown):
-    """Raised if a value depends on the variable of a loop.
+    """Raised if a value depends on the variable of a loop that isn't being gone through.
 
-    `binding` is the binding of that variable, and `where` is its scope. `through` are the values of the names that were
-    followed to get to the variable. `lists` are what loops inside of this loop go through.
+    `binding` is the binding of that variable, and `where` is its scope. `through` are the expressions of the names and
+    attributes that were followed to get to the variable. `lists` are the expressions that other loops go over, if their items
+    depend on the variable.
     """
 
     def __init__(self, binding: Binding, where: Scope) -> None:
+        """Takes the binding and the scope of the variable. `why` is "loop"; `through` and `lists` are empty at first."""
         super().__init__("loop")
         self.binding, self.where = binding, where
         self.through: List[ast.AST] = []
@@ -35,17 +39,8 @@ class Varies(NotKnown):
 
 
 @dataclass(frozen=True)
-class Held:
-    """A name that holds a part of a text, with the file and the line that bind it."""
-
-    name: str
-    path: str
-    line: int
-
-
-@dataclass(frozen=True)
 class Sequence:
-    """A list or a tuple of known values. Code can change a list in place, but not a tuple."""
+    """A list, if `is_list` is set, or a tuple of known values. Code can change a list in place, but not a tuple."""
 
     items: Tuple["Known", ...]
     is_list: bool = False
@@ -53,7 +48,7 @@ class Sequence:
 
 @dataclass(frozen=True)
 class Table:
-    """A dictionary with known values, in the order of the source."""
+    """A dictionary: `items` has the known value of each key, in the order in which the source first names the keys."""
 
     items: Mapping[Union[str, bytes, int], "Known"] = field(hash=False)
 
@@ -63,24 +58,25 @@ Value = Union[str, bytes, int, bool, None, Sequence, Table]
 
 @dataclass(frozen=True)
 class Known:
-    """A value, with the names that hold parts of it, notes for people, and the names that it depends on.
+    """A value, with its `holders`: the names that hold parts of it; with notes for people, and the names that it depends on.
 
-    A note says, for example, that a stand-in was put in place of a part. The value is right only if nothing else binds the
-    names in `needs`. Each of them is a pair: for a name of a module, the module's path and the name; for an attribute,
-    "class " or "object " followed by the class's name, and the attribute.
+    A note says, for example, that a word was put in place of an unknown part. The value is right only if nothing else binds
+    the names in `needs`. Each of them is a pair: for a name of a module, the module's path and the name; for an attribute that
+    is read from `self` or `cls`, "class " followed by the class's name, and the attribute; for one that is read from another
+    name, "object " in place of "class ". A pair with an empty part doesn't count.
     """
 
     value: Value
-    held: Tuple[Held, ...] = ()
+    holders: Tuple[Holder, ...] = ()
     notes: Tuple[str, ...] = ()
     needs: FrozenSet[Tuple[str, str]] = frozenset()
 
-    def with_name(self, held: Held, needs: Tuple[str, str]) -> "Known":
-        """Returns the value with one more name that holds it, and one more name that nothing else may bind."""
-        return replace(self, held=_distinct((held, *self.held)), needs=self.needs | {needs})
+    def with_name(self, holder: Holder, need: Tuple[str, str]) -> "Known":
+        """Returns the value with the name `holder` first in `holders`, once, and with the pair `need` in `needs`."""
+        return replace(self, holders=_distinct((holder, *self.holders)), needs=self.needs | {need})
 
     def with_note(self, note: str) -> "Known":
-        """Returns the value with one more note."""
+        """Returns the value with one more note, which comes last; a note that it has already isn't added."""
         return replace(self, notes=_distinct((*self.notes, note)))
 
     def text(self) -> Union[str, bytes]:
@@ -91,23 +87,26 @@ class Known:
 
 
 def made(value: Any, parts: Iterable[Known]) -> Known:
-    """Returns a value that was made from parts, with the names, notes and needs of the parts.
+    """Returns a value that was made from parts, with all needs, and the names and notes in the order of the parts, each once.
 
-    Raises NotKnown if the value is too large.
+    Raises NotKnown if the value exceeds one of the limits that `check_size` checks.
     """
     check_size(value)
-    held: List[Held] = []
+    holders: List[Holder] = []
     notes: List[str] = []
     needs: FrozenSet[Tuple[str, str]] = frozenset()
     for part in parts:
-        held += part.held
+        holders += part.holders
         notes += part.notes
         needs |= part.needs
-    return Known(value, _distinct(held), _distinct(notes), needs)
+    return Known(value, _distinct(holders), _distinct(notes), needs)
 
 
 def check_size(value: Any) -> None:
-    """Raises NotKnown if a value exceeds the limits on texts, lists and numbers."""
+    """Raises NotKnown for a text or bytes longer than LONGEST_TEXT, or a list or tuple of more than LONGEST_LIST items.
+
+    Raises it too for a number above LARGEST_NUMBER or below minus that. Dictionaries and None pass.
+    """
     if isinstance(value, (str, bytes)) and len(value) > LONGEST_TEXT:
         raise NotKnown("too large")
     if isinstance(value, Sequence) and len(value.items) > LONGEST_LIST:
@@ -117,5 +116,5 @@ def check_size(value: Any) -> None:
 
 
 def _distinct(found: Iterable[Any]) -> Tuple[Any, ...]:
-    """The items in order, each once."""
+    """The items, which must be hashable, in the order of their first occurrence, each once."""
     return tuple(dict.fromkeys(found))

@@ -1,7 +1,9 @@
-"""Decides whether the code at a place is run with each item of a loop.
+"""Decides whether the code at a place counts as run with each item of a loop.
 
-It is if it is in the loop's body and is run there at once, if no test on the loop's variables can skip items, and if the loop
-doesn't always end in its first turn. A test on what a pattern matches is allowed, because any item may pass it.
+A loop is a `for` statement or a loop of a comprehension. The code at the place counts as run with each item if it is in the
+loop's body and is run there at once, if there is no test on the loop's variables, and if no statement directly in the body
+ends the loop. A test that contains the place is allowed, and one in which the variables are only arguments of methods that
+have the name of a function of `re`.
 """
 from __future__ import annotations
 
@@ -21,23 +23,31 @@ Span = Tuple[Tuple[int, int], Tuple[int, int]]
 
 
 def span(node: Any) -> Span:
-    """Returns the line and the column where an expression or a statement begins, and those where it ends."""
+    """Returns the line and the column where an expression or a statement begins, and those behind its end, as in `ast`.
+
+    Lines count from 1, and columns count bytes of UTF-8 from 0.
+    """
     return (node.lineno, node.col_offset), (node.end_lineno, node.end_col_offset)
 
 
 def is_within(inner: Span, outer: Span) -> bool:
-    """Returns whether one part of a source is inside of another one, or is the same."""
+    """Returns whether the span `inner` lies within the span `outer`, which may be the same."""
     return outer[0] <= inner[0] and inner[1] <= outer[1]
 
 
 class Loops:
-    """Answers questions about the loops of one file, and keeps the places of their tests."""
+    """Answers questions about the loops of one file, and keeps the spans of their tests."""
 
     def __init__(self) -> None:
+        """Begins with no tests kept."""
         self._tests: Dict[ast.AST, List[Span]] = {}
 
     def reason(self, varies: Varies, place: ast.expr, scope: Scope) -> str:
-        """Returns why a place isn't run with each item of a loop, or "" if it is. `scope` is the scope of the place."""
+        """Returns "" if the expression `place` counts as run with each item of the loop of `varies`.
+
+        Otherwise returns WITH_TEST if only a test on the loop's variables is against it, and else "loop". `scope` is the scope
+        in which the expression is read.
+        """
         loop = varies.binding.loop
         if not any(varies.where is it for it in _scopes_run_with(scope)):
             return "loop"
@@ -55,7 +65,10 @@ class Loops:
         return WITH_TEST if any(not is_within(span(place), it) for it in tested) else ""
 
     def _tested(self, loop: Any, where: Scope) -> List[Span]:
-        """The spans of the tests on the variables of a loop; `where` is the scope of these variables."""
+        """The spans of the tests on the variables of a loop, in the body of a `for` loop or in the whole comprehension.
+
+        `where` is the scope of these variables. The spans are kept for each loop.
+        """
         if loop not in self._tests:
             names = {it.id for it in ast.walk(loop.target) if isinstance(it, ast.Name)}
             nodes: List[Any] = [*loop.body] if isinstance(loop, ast.For) else [where.node]
@@ -64,7 +77,10 @@ class Loops:
 
 
 def _scopes_run_with(scope: Scope) -> Iterator[Scope]:
-    """Yields a scope, and the scopes around it that run it at once: a list comprehension is, a generator isn't."""
+    """Yields a scope and, as long as it is that of a list, set or dictionary comprehension, the scope around it.
+
+    These comprehensions are run at once where they are written; functions and generators aren't.
+    """
     at = scope
     yield at
     while isinstance(at.node, AT_ONCE) and at.parent is not None:
@@ -73,7 +89,11 @@ def _scopes_run_with(scope: Scope) -> Iterator[Scope]:
 
 
 def _tests_of(top: Any) -> Iterator[ast.expr]:
-    """Yields the expressions in a node on whose values it depends whether other code is run."""
+    """Yields the tests in a node and below it.
+
+    They are the conditions of `if`, `while`, `assert`, conditional expressions and comprehensions, all operands of `and` and
+    `or` except the last, and the subjects and guards of `match`.
+    """
     for node in ast.walk(top):
         if isinstance(node, (ast.If, ast.While, ast.IfExp, ast.Assert)):
             yield node.test
@@ -88,7 +108,7 @@ def _tests_of(top: Any) -> Iterator[ast.expr]:
 
 
 def _is_on(test: ast.expr, names: Set[str]) -> bool:
-    """Whether a test reads one of the names, except as the pattern or the text of a match."""
+    """Whether a test contains one of the names, except in an argument of a method that has a name in FLAGS_AT, as `search`."""
     left: List[ast.AST] = [test]
     while left:
         node = left.pop()

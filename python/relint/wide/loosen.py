@@ -1,12 +1,13 @@
 """Makes forms of a pattern that relint can read, by leaving out or replacing what relint refuses.
 
 A form needn't match the same texts as the pattern. It serves only to make texts, which are then tried on the pattern itself.
+Branches are the alternatives of a pattern or a group, which `|` divides; each is a sequence of items.
 """
 from __future__ import annotations
 
 import re
 from dataclasses import dataclass, field, replace
-from typing import Dict, Iterator, List, Optional, Tuple, Union
+from typing import Dict, Iterator, List, Tuple, Union
 
 from ..flags import INLINE, TURNED_OFF
 from ..pump import BLANKS, CLASS, ESCAPE, FRONT, PASSED, QUANTIFIER, repeated_parts
@@ -26,12 +27,12 @@ NEGATIVE = ("(?!", "(?<!")
 
 
 class NotRead(Exception):
-    """Raised if the pattern can't be taken apart, or a form of it can't be made."""
+    """Raised if the pattern can't be taken apart, or a form of it can't be made; the message says why in a few words."""
 
 
 @dataclass(frozen=True)
 class Piece:
-    """A part that isn't a group: its text, and its quantifier."""
+    """A part that isn't a group: its text, such as "a", "[ab]" or "\\d", and its quantifier, such as "{2,}?", or ""."""
 
     text: str
     quantifier: str = ""
@@ -39,7 +40,7 @@ class Piece:
 
 @dataclass(frozen=True)
 class Group:
-    """A group: its opening text `head`, such as "(?:", its branches, and its quantifier."""
+    """A group or a lookaround: its opening text `head`, such as "(?:" or "(?=", its branches, and its quantifier or ""."""
 
     head: str
     branches: Tuple[Tuple["Item", ...], ...]
@@ -52,7 +53,10 @@ Branches = Tuple[Tuple[Item, ...], ...]
 
 @dataclass
 class Read:
-    """A pattern taken apart: the letters of the flags in front, its branches, and its capturing groups by number and name."""
+    """A pattern taken apart: `front` has the letters of the flags in front, and `branches` are the pattern's own.
+
+    `numbered` has each capturing group under its number, in decimal, as in "1", and also under its name if it has one.
+    """
 
     front: str
     branches: Branches = ()
@@ -60,9 +64,14 @@ class Read:
 
 
 class _Reader:
-    """Takes a pattern apart that `re` accepts. Raises NotRead for one that it can't take apart."""
+    """Takes a pattern apart that `re` accepts; the result is `read`.
+
+    In the methods, `at` is the position that is read next, `verbose` says that VERBOSE holds there, and `depth` counts the
+    groups around it. They raise NotRead if the pattern can't be taken apart.
+    """
 
     def __init__(self, text: str, verbose: bool) -> None:
+        """Takes the text of the pattern apart; `verbose` says that its call has the flag VERBOSE. Raises NotRead."""
         self.text, self.at, self.count = text, 0, 0
         self.read = Read("")
         found = FRONT.match(text)
@@ -75,6 +84,7 @@ class _Reader:
             raise NotRead("a bracket too many")
 
     def _branches(self, verbose: bool, depth: int) -> Branches:
+        """Reads branches up to a closing bracket or the end, and returns them. There is at least one, perhaps empty."""
         if depth > DEEPEST:
             raise NotRead("too deep")
         found: List[List[Item]] = [[]]
@@ -95,6 +105,7 @@ class _Reader:
         return found is not None
 
     def _item(self, verbose: bool, depth: int) -> Item:
+        """Reads an atom and its quantifier if it has one, and returns them as an item."""
         item = self._atom(verbose, depth)
         while self._pass(verbose):
             pass
@@ -105,6 +116,7 @@ class _Reader:
         return replace(item, quantifier=found.group())
 
     def _atom(self, verbose: bool, depth: int) -> Item:
+        """Reads a character, an escape, a class, a backreference or a group, and returns it without a quantifier."""
         first = self.text[self.at]
         found = ESCAPE.match(self.text, self.at) if first == "\\" else CLASS.match(self.text, self.at)
         if first == "(":
@@ -119,6 +131,7 @@ class _Reader:
         return Piece(text)
 
     def _group(self, verbose: bool, depth: int) -> Item:
+        """Reads a group, and returns it; notes a capturing one in `read.numbered`. `(?P=name)` is returned as a piece."""
         found = OPENING.match(self.text, self.at)
         head = found.group() if found else "("
         self.at += len(head)
@@ -142,12 +155,21 @@ class _Reader:
         return group
 
 
+def taken_apart(text: str, flags: int) -> Read:
+    """Returns the pattern with the text `text` taken apart; of the flags of its call, only VERBOSE counts here.
+
+    Raises NotRead, IndexError or RecursionError if it can't be taken apart.
+    """
+    return _Reader(text, bool(flags & int(re.X))).read
+
+
 def written(branches: Branches) -> str:
     """Returns the branches as the text of a pattern."""
     return "|".join("".join(map(_written, items)) for items in branches)
 
 
 def _written(item: Item) -> str:
+    """The text of an item, with its quantifier."""
     if isinstance(item, Piece):
         return item.text + item.quantifier
     return item.head + written(item.branches) + ")" + item.quantifier
@@ -155,29 +177,38 @@ def _written(item: Item) -> str:
 
 @dataclass(frozen=True)
 class Form:
-    """A loosened form of a pattern, with the names of the rules that made it."""
+    """A loosened form of a pattern, with words for each rule that made it, in the order of their first use."""
 
     pattern: Text
     rules: Tuple[str, ...]
 
 
 class _Rules:
-    """Applies the rules that loosen a pattern; `used` has the names of those that were applied.
+    """Applies the rules that loosen a pattern; `used` has words for each rule that was applied, `size` counts the items read.
 
-    `look` says what happens to lookaround: it is dropped (drop), its body is put in its place (place), or only negative
-    lookaround is dropped (mixed). With `few`, counts above FEW become FEW.
+    In the methods, `copied` counts the groups around a part that are copies in place of a backreference.
     """
 
     def __init__(self, read: Read, multiline: bool, look: str, few: bool = False) -> None:
+        """Takes the pattern, whether it has the flag MULTILINE, and which rules to apply.
+
+        `look` says what happens to lookaround: with "drop" it is left out, with "place" its body is put in its place, and with
+        "mixed" only negative lookaround is left out. With `few`, a repeat of at least n > FEW times becomes one of FEW times,
+        or of at least FEW times if it had a range.
+        """
         self.read, self.multiline, self.look, self.few = read, multiline, look, few
         self.used: Dict[str, None] = {}
         self.size = 0
 
     def branches(self, branches: Branches, copied: int = 0) -> Branches:
-        """Returns the branches in a form that relint reads. Raises NotRead if it gets too large."""
+        """Returns the branches in a form that relint reads.
+
+        Raises NotRead if it has more than LONGEST items, or for a reference to a group that isn't known or too deep in copies.
+        """
         return tuple(tuple(it for item in items for it in self._item(item, copied)) for items in branches)
 
     def _item(self, item: Item, copied: int) -> Iterator[Item]:
+        """Yields what takes the place of an item: one item, or none for lookaround that is left out. Raises NotRead."""
         self.size += 1
         if self.size > LONGEST:
             raise NotRead("a form is too large")
@@ -198,6 +229,7 @@ class _Rules:
             yield Group(head, self.branches(item.branches, copied), quantifier)
 
     def _quantifier(self, quantifier: str) -> str:
+        """The quantifier made plain if it is possessive, and with smaller counts if `few` is set."""
         if len(quantifier) > 1 and quantifier.endswith("+"):
             self.used["possessive repeat as a plain one"] = None
             quantifier = quantifier[:-1]
@@ -209,6 +241,10 @@ class _Rules:
         return quantifier
 
     def _piece(self, item: Piece, copied: int) -> Iterator[Item]:
+        """Yields what takes the place of a piece: a copy of the group for a backreference, else the piece itself.
+
+        Without the flag MULTILINE, `\\Z` takes the place of `$`. Raises NotRead if the group isn't known or is too deep.
+        """
         reference = REFERENCE.fullmatch(item.text)
         if reference:
             group = self.read.numbered.get(reference.group(1) or reference.group(2))
@@ -223,6 +259,7 @@ class _Rules:
             yield item
 
     def _look(self, item: Group, copied: int) -> Iterator[Item]:
+        """Yields the body of a lookaround as a group without a quantifier, or nothing if it is left out."""
         if self.look == "drop" or (self.look == "mixed" and item.head in NEGATIVE):
             self.used["lookaround dropped"] = None
             return
@@ -231,13 +268,15 @@ class _Rules:
 
 
 def forms(pattern: Text, flags: int, is_undecided: bool = False) -> List[Form]:
-    """Returns forms of a pattern that relint refuses or can't decide, the most promising first.
+    """Returns at most MOST_FORMS forms of a pattern, in the order of `_forms`, each once, without the pattern itself.
 
-    Returns none if the pattern can't be taken apart.
+    Forms of more than LONGEST characters or bytes are left out. `flags` are those of the pattern's call. `is_undecided` says
+    that relint can't decide it; then smaller parts of it are forms too. Returns an empty list if the pattern can't be taken
+    apart or a form can't be made.
     """
     text = pattern.decode("latin-1") if isinstance(pattern, bytes) else pattern
     try:
-        read = _Reader(text, bool(flags & int(re.X))).read
+        read = taken_apart(text, flags)
         found = list(_forms(read, text, flags, is_undecided))
     except (NotRead, RecursionError, IndexError):
         return []
@@ -248,7 +287,11 @@ def forms(pattern: Text, flags: int, is_undecided: bool = False) -> List[Form]:
 
 
 def _forms(read: Read, text: str, flags: int, is_undecided: bool) -> Iterator[Form]:
-    """Yields the forms of a pattern; some may be the same. Raises NotRead."""
+    """Yields the forms of the pattern `text`, taken apart in `read`: whole ones, then the body of each lookaround, then parts.
+
+    Parts are yielded only if `is_undecided`. Forms may be equal to each other or to the pattern. `flags` are those of the
+    pattern's call. Raises NotRead if a form can't be made.
+    """
     # Flags in front are kept. Layout under VERBOSE isn't written, but a form has to be read under VERBOSE all the same.
     letters = "".join(dict.fromkeys(it for it in read.front))
     front = f"(?{letters})" if letters else ""
@@ -265,7 +308,7 @@ def _forms(read: Read, text: str, flags: int, is_undecided: bool) -> Iterator[Fo
 
 
 def _bodies(branches: Branches) -> Iterator[Branches]:
-    """Yields the body of each lookaround, the outer ones first."""
+    """Yields the body of each lookaround in the branches, an outer one before those in it."""
     for items in branches:
         for item in items:
             if isinstance(item, Group):
@@ -275,7 +318,11 @@ def _bodies(branches: Branches) -> Iterator[Branches]:
 
 
 def _parts(read: Read, front: str, multiline: bool, text: str, flags: int) -> Iterator[Form]:
-    """Yields smaller forms of a pattern that relint can't decide: with smaller counts, each half, and single loops."""
+    """Yields smaller forms of a pattern that relint can't decide: with smaller counts, each half, and single loops.
+
+    Of the loops, these are the last MOST_LOOPS. `front` is the group of flags in front of each form, or "", `multiline` says
+    that MULTILINE is set, and `text` and `flags` are those of the pattern. Raises NotRead if a form can't be made.
+    """
     few = _Rules(read, multiline, "mixed", few=True)
     yield Form(front + written(few.branches(read.branches)), tuple(few.used))
     for name, half in _halves(read.branches):
@@ -287,7 +334,11 @@ def _parts(read: Read, front: str, multiline: bool, text: str, flags: int) -> It
 
 
 def _halves(branches: Branches) -> Iterator[Tuple[str, Branches]]:
-    """Yields both halves of a pattern with their names: half of its branches, or half of the parts of its only branch."""
+    """Yields both halves of a pattern with their names: half of its branches, or half of the items of its only branch.
+
+    If the only item of the only branch is a group that isn't a lookaround and has no quantifier, these are the halves of the
+    group. The first half has one more if the number is odd; the second may be empty.
+    """
     if len(branches) > 1:
         middle = (len(branches) + 1) // 2
         yield "first half", branches[:middle]
@@ -300,13 +351,3 @@ def _halves(branches: Branches) -> Iterator[Tuple[str, Branches]]:
     middle = (len(items) + 1) // 2
     yield "first half", (items[:middle],)
     yield "second half", (items[middle:],)
-
-
-def reads(pattern: Text, flags: int) -> Optional[str]:
-    """Returns the pattern taken apart and written again, or None if it can't be taken apart. Serves tests."""
-    text = pattern.decode("latin-1") if isinstance(pattern, bytes) else pattern
-    try:
-        read = _Reader(text, bool(flags & int(re.X))).read
-    except (NotRead, RecursionError, IndexError):
-        return None
-    return (f"(?{read.front})" if read.front else "") + written(read.branches)

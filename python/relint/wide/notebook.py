@@ -18,8 +18,10 @@ class NotebookError(Exception):
 class Notebook:
     """The code of a notebook.
 
-    `origins` has, for each line of `text`, the number of its cell and the line in that cell. Cells of all kinds count, from 1.
-    `left_out` are the cells that can't be read as Python; they are blank in `text`.
+    `text` has the lines of all code cells. `origins` has, for each of these lines, the number of its cell and its line in the
+    cell, both from 1; cells of all kinds count. `left_out` are the numbers of the code cells that can't be read as Python;
+    their lines are empty in `text`, and so are those of cells that begin with `%%`. Without code cells, `text` is one empty
+    line, with line 1 of cell 1 as its origin.
     """
 
     text: str
@@ -27,12 +29,15 @@ class Notebook:
     left_out: Tuple[int, ...]
 
     def origin(self, line: int) -> Tuple[int, int]:
-        """Returns the cell from which a line of the text comes, and the line in that cell."""
+        """Returns the number of the cell from which a line of `text`, from 1, comes, and the line in that cell.
+
+        A line before the first or after the last counts as the nearest one.
+        """
         return self.origins[min(max(line, 1), len(self.origins)) - 1]
 
 
 def read_notebook(data: bytes) -> Notebook:
-    """Returns the notebook that the bytes of a file hold. Raises NotebookError if they hold none."""
+    """Returns the notebook in the bytes of a file. Raises NotebookError if they aren't JSON in UTF-8 with a list of cells."""
     try:
         found = json.loads(data.decode("utf-8-sig"))
     except (ValueError, RecursionError) as error:
@@ -55,7 +60,10 @@ def read_notebook(data: bytes) -> Notebook:
 
 
 def _cells(found: Any) -> Optional[List[Any]]:
-    """The list of cells in the JSON of a notebook, in the present format or the old one; None if there is none."""
+    """The list of cells in the JSON of a notebook; None if there is none.
+
+    The old format has it in the first of its `worksheets`.
+    """
     if not isinstance(found, dict):
         return None
     if isinstance(found.get("cells"), list):
@@ -67,7 +75,10 @@ def _cells(found: Any) -> Optional[List[Any]]:
 
 
 def _code(cells: List[Any]) -> Iterator[Tuple[int, str]]:
-    """Yields the numbers and the texts of the cells that hold code."""
+    """Yields the number, from 1, and the text of each cell that holds code. Cells of all kinds count for the number.
+
+    A cell without a source has the text ""; one whose source is neither a text nor a list of texts is left out.
+    """
     for number, cell in enumerate(cells, 1):
         if not isinstance(cell, dict) or cell.get("cell_type") != "code":
             continue
@@ -79,7 +90,10 @@ def _code(cells: List[Any]) -> Iterator[Tuple[int, str]]:
 
 
 def _without_magic(line: str) -> str:
-    """The line, or `pass` with its indentation in place of a command that only a notebook understands."""
+    """The line, or `pass` with its indentation if it begins with %, ! or ?, or ends with ?, as commands of a notebook do.
+
+    White space around the line doesn't count. Other lines that end with ?, such as comments, become `pass` too.
+    """
     begun = line.lstrip()
     if begun[:1] in ("%", "!", "?") or line.rstrip().endswith("?"):
         return line[:len(line) - len(begun)] + "pass"
@@ -87,6 +101,7 @@ def _without_magic(line: str) -> str:
 
 
 def _is_python(text: str) -> bool:
+    """Whether the running Python can parse a text."""
     try:
         with warnings.catch_warnings():
             warnings.simplefilter("ignore")

@@ -1,4 +1,8 @@
-"""relint-record: runs a program, notes each pattern that it gives to `re` or `regex`, and has relint judge them."""
+"""relint-record: runs a program, notes each pattern that it gives to `re` or `regex`, and has relint judge them.
+
+The folder `watch` has a module that Python runs at its start. There, each process of the program writes its patterns to a file
+of its own, with one line for each.
+"""
 from __future__ import annotations
 
 import argparse
@@ -42,7 +46,8 @@ NAME = "relint-record"
 class Recorded:
     """What was recorded: each pattern once for each place, function and set of flags.
 
-    `made` counts them by engine. `left_out` counts patterns that exceeded a limit, and `wrong` lines that can't be read.
+    `found` has the patterns, and `made` counts them by engine, re or regex. `processes` counts the processes that wrote notes.
+    `left_out` counts the notes of patterns that exceeded a limit, and `wrong` counts the lines that can't be read.
     """
 
     found: List[Found] = field(default_factory=list)
@@ -53,7 +58,10 @@ class Recorded:
 
 
 def environment(folder: str) -> Dict[str, str]:
-    """Returns the environment for the program: this one's, with the folder `watch` first on Python's path."""
+    """Returns the environment for the program: this one's, with the folder `watch` first in PYTHONPATH.
+
+    RELINT_RECORD is `folder`, where the processes of the program write their notes.
+    """
     known = dict(os.environ)
     known["PYTHONPATH"] = os.pathsep.join([str(WATCH), *filter(None, [known.get("PYTHONPATH")])])
     known["RELINT_RECORD"] = folder
@@ -61,7 +69,10 @@ def environment(folder: str) -> Dict[str, str]:
 
 
 def read_notes(folder: str, below: Optional[str]) -> Recorded:
-    """Returns what the processes noted in a folder; with `below`, only the patterns that files below that folder made."""
+    """Returns what the processes noted in a folder; with `below`, only the patterns that files below that folder made.
+
+    At most LARGEST_NOTES bytes of each process are read. Raises OSError if the notes can't be read.
+    """
     recorded = Recorded()
     distinct: Dict[Tuple[Any, ...], None] = {}
     for path in sorted(Path(folder).iterdir()):
@@ -82,7 +93,11 @@ def read_notes(folder: str, below: Optional[str]) -> Recorded:
 
 
 def _note(line: bytes) -> Optional[Tuple[Any, ...]]:
-    """The seven values of a line of notes, or None if the line is wrong."""
+    """The seven values of a line of notes, or None if the line is wrong.
+
+    They are "made" or "left out", the engine, the name of the function, the pattern, the flags, and the path and the line from
+    which the function was called.
+    """
     try:
         found = ast.literal_eval(line.decode("ascii"))
     except (ValueError, SyntaxError, RecursionError, MemoryError):
@@ -96,7 +111,11 @@ def _note(line: bytes) -> Optional[Tuple[Any, ...]]:
 
 
 def _found(note: Tuple[Any, ...]) -> Found:
-    """The pattern of a note without its first value; its place is the line that made it."""
+    """The pattern of a note, given without its first value; its place is the line that made it, column 1.
+
+    Its path is relative if it lies below the current folder. A function that isn't in FLAGS_AT counts as `compile`, line 0
+    counts as 1, and flags that aren't in EVERY are left out.
+    """
     engine, name, pattern, flags, path, line = note
     call = name if name in FLAGS_AT else "compile"
     shown = os.path.relpath(path) if _is_below(path, os.getcwd()) else path
@@ -105,7 +124,7 @@ def _found(note: Tuple[Any, ...]) -> Found:
 
 
 def _is_below(path: str, folder: str) -> bool:
-    """Whether a path lies in a folder. A name such as "<string>" doesn't."""
+    """Whether a path is the folder or lies in it, once links are followed. A relative path that begins with `<` doesn't."""
     top = os.path.realpath(folder)
     return os.path.commonpath([os.path.realpath(path), top]) == top if os.path.isabs(path) or path[:1] != "<" else False
 
@@ -135,7 +154,10 @@ def parser() -> Parser:
 
 
 def split_words(words: Sequence[str]) -> Tuple[List[str], List[str]]:
-    """Returns the words before `--`, which are the tool's own, and the words after it, which are the command."""
+    """Returns the words before the first `--`, which are the tool's own, and those after it, which are the command.
+
+    Without `--`, all are the tool's own.
+    """
     if "--" not in words:
         return list(words), []
     at = list(words).index("--")
@@ -143,7 +165,10 @@ def split_words(words: Sequence[str]) -> Tuple[List[str], List[str]]:
 
 
 def ran(command: Sequence[str], folder: str) -> int:
-    """Runs the command with the watch, and returns its status. Raises GatherError if it can't be run."""
+    """Runs the command, whose processes write notes to the folder, and returns its status; -N if signal N ended it.
+
+    An interrupt from the keyboard doesn't end the wait. Raises GatherError if the command can't be run.
+    """
     try:
         process = subprocess.Popen(command, env=environment(folder))
     except (OSError, ValueError) as error:
@@ -157,7 +182,11 @@ def ran(command: Sequence[str], folder: str) -> int:
 
 
 def judge(recorded: Recorded, given: argparse.Namespace) -> run.Result:
-    """Has relint judge what was recorded, and returns the entries. Raises GatherError."""
+    """Has relint judge what was recorded, and returns the entries and counts. `given` has the options.
+
+    Patterns for which `run.is_to_be_tried` holds are matched in trials, unless --no-trials is given. Raises GatherError if
+    relint gives no report that fits the patterns, and ProgramError if it can't be run.
+    """
     options = (f"--max-pairs={given.max_pairs}",)
     settings = run.Settings(given.mode, given.max_degree, options, given.jobs, limits_of(given))
     try:
@@ -169,6 +198,10 @@ def judge(recorded: Recorded, given: argparse.Namespace) -> run.Result:
 def _terminal(
     found: Sequence[Finding], result: run.Result, recorded: Recorded, ended: int, paint: show.Painter,
 ) -> Iterator[str]:
+    """Yields the lines for a terminal: the findings `found`, and the counts.
+
+    `ended` is the status with which the program ended. What was left out is said only if there was any.
+    """
     yield from show.sections(found, (), paint, RECORDED_TITLES)
     engines = ", ".join(f"{count:,} by {name}" for name, count in sorted(recorded.made.items())) or "none"
     processes = plain.counted(recorded.processes, "process", "processes")
@@ -180,6 +213,7 @@ def _terminal(
 
 
 def _lines(given: argparse.Namespace, recorded: Recorded, result: run.Result, ended: int) -> Iterator[str]:
+    """Yields the lines to write, in the format that the command line asks for; `ended` is as in `_terminal`."""
     report = Report(result.entries, 0, 0, 0, 2)
     if given.format == "json":
         yield document(report, result.counts)
@@ -196,7 +230,12 @@ def _lines(given: argparse.Namespace, recorded: Recorded, result: run.Result, en
 
 
 def record(given: argparse.Namespace, command: Sequence[str]) -> int:
-    """Runs the command, writes the report on its patterns, and returns the exit status. Raises GatherError."""
+    """Runs the command, writes the report on its patterns to standard output or the file of --output.
+
+    Returns the exit status: 1 if there is a finding, 0 if there is none, or another if the file can't be written. With a file,
+    the number of findings goes to standard error. Raises GatherError if there is no command, it can't be run, or relint gives
+    no report that fits; ProgramError if relint can't be run; Unwritten for standard output; OSError if notes can't be read.
+    """
     if not command:
         raise gather.GatherError("give the program behind --, as in: relint-record -- pytest tests")
     with tempfile.TemporaryDirectory(prefix="relint-record-") as folder:
@@ -211,7 +250,11 @@ def record(given: argparse.Namespace, command: Sequence[str]) -> int:
 
 
 def main(words: Optional[Sequence[str]] = None) -> int:
-    """Runs the tool with the words of the command line, and returns the exit status."""
+    """Runs the tool with the words of the command line, or those in `sys.argv` if `words` is None.
+
+    Returns the exit status, as `record` does, or that of an error, which a line on standard error explains. Help, the version
+    and a mistake in the words raise SystemExit.
+    """
     own, command = split_words(sys.argv[1:] if words is None else words)
     given = parser().parse_args(own)
     return gather.ended(NAME, lambda: record(given, command))

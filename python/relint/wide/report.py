@@ -11,16 +11,21 @@ from .run import Counts
 
 
 def _place(place: Place) -> Dict[str, int]:
+    """A place as values for JSON."""
     return {"column": place.column, "line": place.line}
 
 
 def _verdict(verdict: Verdict) -> Dict[str, Any]:
+    """A verdict as values for JSON, without the fields that are None."""
     found = {"kind": verdict.kind, "degree": verdict.degree, "limit": verdict.limit, "over": verdict.over}
     return {key: value for key, value in found.items() if value is not None}
 
 
 def entry_as_json(entry: Entry) -> Dict[str, Any]:
-    """Returns an entry as values for JSON: those that relint's own report has for it, and those that relint-wide adds."""
+    """Returns an entry as values for JSON, without those that are None: with the keys of relint's own report, and `beyond`.
+
+    `beyond` is what relint-wide knows of the entry, and is missing if relint-wide didn't find it.
+    """
     found: Dict[str, Any] = {
         "path": entry.path, "kind": entry.kind, "call": entry.call, "degree": entry.degree, "limit": entry.limit,
         "over": entry.over, "cause": entry.cause,
@@ -34,8 +39,8 @@ def entry_as_json(entry: Entry) -> Dict[str, Any]:
         found["family"] = {"heads": list(map(plain.quoted, heads)), "pumps": list(map(plain.quoted, pumps))}
     if entry.suggest is not None:
         found["suggest"] = plain.quoted(entry.suggest)
-    if entry.suggest is not None or entry.dropped or entry.merged or entry.passed:
-        found.update(dropped=_places(entry.dropped), merged=_places(entry.merged), passed=_places(entry.passed))
+    if entry.suggest is not None or entry.dropped or entry.merged or entry.over_limit:
+        found.update(dropped=_places(entry.dropped), merged=_places(entry.merged), passed=_places(entry.over_limit))
     if entry.becomes is not None:
         found["becomes"] = _verdict(entry.becomes)
     if entry.beyond is not None:
@@ -44,11 +49,12 @@ def entry_as_json(entry: Entry) -> Dict[str, Any]:
 
 
 def _places(places: Iterable[Place]) -> List[Dict[str, int]]:
+    """Places as values for JSON."""
     return [_place(it) for it in places]
 
 
 def counts_as_json(counts: Counts) -> Dict[str, Any]:
-    """Returns the counts as values for JSON, with the files that couldn't be read."""
+    """Returns the counts as values for JSON; `unread` has the files and cells that couldn't be read, with the reasons."""
     return {
         "files": counts.files, "seen": counts.seen, "literal": counts.literal, "folded": counts.folded,
         "judged": counts.judged, "tables": counts.tables, "tried": counts.tried,
@@ -58,7 +64,10 @@ def counts_as_json(counts: Counts) -> Dict[str, Any]:
 
 
 def document(report: Report, counts: Counts) -> str:
-    """Returns the report on one line. `entries` and the counts beside it are relint's own; `beyond` has the other entries."""
+    """Returns the report in JSON on one line, without a line end.
+
+    `entries` and the counts beside it are relint's own; `beyond` has the entries of relint-wide, and `wide` has its counts.
+    """
     whole = {
         "entries": [entry_as_json(it) for it in own_of(report.entries)], "findings": report.findings,
         "refused": report.refused, "undecided": report.undecided, "version": 2,

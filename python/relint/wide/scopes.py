@@ -22,11 +22,12 @@ GIVING = frozenset(("get", "items", "iter", "enumerate", "next", "pop", "popitem
 class Binding:
     """One binding of a name. `kind` is value, import, class, function, parameter, loop, or a word for one that isn't followed.
 
-    `node` is the expression that gives the value, or the class or function; `scope` is the scope in which it is read. For an
-    import, `module` is the module with the dots before it, and `member` is the name that is imported from it, or None for the
-    module itself. `inside` is the scope of the body of a class or function. For the variable of a loop, `loop` is the loop,
-    `node` is what it goes through, and `part` says how an item is unpacked down to the variable: for each step the number of
-    the part, and how many parts there are.
+    `line` counts from 1. `node` is the expression that gives the value, or the class or function; `scope` is the scope in
+    which it is read. `conditional` says that the binding may not be made when the code of its scope is run. For an import,
+    `module` is the module with the dots before it, and `member` is the name that is imported from it, or None for the module
+    itself. `inside` is the scope of the body of a class or function. For the variable of a loop, `loop` is the loop or
+    comprehension, `node` is what it goes over, and `part` says how an item is unpacked down to the variable: for each step the
+    number of the part, from 0, and how many parts there are.
     """
 
     kind: str
@@ -46,7 +47,10 @@ Scope = scoping.Scope[Binding]
 
 @dataclass(frozen=True)
 class Store:
-    """An assignment to an attribute: `base.name = value`. `value` is None if no expression gives the value."""
+    """An assignment to an attribute, `base.name = value`, or its deletion. `base` and `value` are read in `scope`.
+
+    `value` is None if no expression gives the value, as in `base.name += 1`. `line` counts from 1.
+    """
 
     name: str
     base: ast.AST
@@ -59,10 +63,12 @@ class Store:
 class Scopes:
     """What was found in a source: the scope of the module, the calls, the classes, and what is changed in place.
 
-    `imported` has the first part of the name of each module that is imported anywhere. `is_open` says that names of the module
-    may be bound by their text, as by `globals()["name"] = ..`. `aliases` are pairs of names: the first may hold the object
-    that the second holds, or an item of it. `stars` are the modules of star imports with their lines. `inner` has the scope of
-    each node that has one of its own.
+    Each node comes with the scope in which it is read. `stores` has the assignments to attributes by the attribute's name.
+    `changed` are the expressions whose objects are changed in place, such as `a` in `a.append(1)`. `imported` has the first
+    part of the name of each module that is imported anywhere. `is_open` says that names of the module may be bound by their
+    text, as by `globals()["name"] = ..`. `aliases` are pairs of names: the first may hold the object that the second holds, or
+    an item of it. `stars` are the modules of star imports with their lines. `inner` has the scope of each node that has one of
+    its own.
     """
 
     module: Scope
@@ -100,7 +106,7 @@ def _with_sources(names: Set[str], aliases: List[Tuple[str, str]]) -> Set[str]:
 def root_name(node: Optional[ast.AST]) -> str:
     """Returns the name or attribute whose object, or an item of whose object, is the value of an expression.
 
-    Returns "" if there is no such name.
+    `a.b["x"].get(1)` gives "b". Returns "" for None, and for an expression of another form.
     """
     while True:
         if isinstance(node, (ast.Subscript, ast.Starred)):
@@ -114,25 +120,27 @@ def root_name(node: Optional[ast.AST]) -> str:
 
 
 def last_name(node: ast.AST) -> str:
-    """Returns the last part of a dotted name, or of the name that is called; "" if the expression isn't a name."""
+    """Returns the last part of a dotted name or of the name that is called, "b" for `a.b` and `a.b(1)`; "" for the rest."""
     named = node.func if isinstance(node, ast.Call) else node
     return named.attr if isinstance(named, ast.Attribute) else named.id if isinstance(named, ast.Name) else ""
 
 
 class _Reader:
-    """Walks over a tree with a stack of what is still to be read.
+    """Walks over a tree with the stack `left` of what is still to be read.
 
-    Each item of the stack is a node, its scope, and whether the node is conditional: it may not be run when its scope is. The
-    methods in READERS each read one kind of node, and put its parts on the stack.
+    Each item of the stack is a node, its scope, and whether the node is conditional: it may not be run when the code of its
+    scope is. The methods in READERS each read one kind of node, and put its parts on the stack.
     """
 
     def __init__(self, tree: ast.Module) -> None:
+        """Takes the tree of a module, whose statements are read first."""
         self.found = Scopes(Scope("module", tree))
         self.left: List[Tuple[ast.AST, Scope, bool]] = []
         self.bound: List[Tuple[Scope, str, Binding]] = []
         self._put(tree.body, self.found.module, False)
 
     def read(self) -> Scopes:
+        """Reads the nodes on the stack until none is left, and returns what was found."""
         while self.left:
             node, scope, conditional = self.left.pop()
             reader = READERS.get(type(node).__name__)
@@ -144,10 +152,12 @@ class _Reader:
         return self.found
 
     def _put(self, nodes: Any, scope: Scope, conditional: bool) -> None:
+        """Puts nodes on the stack, so that the first of them is read first. None among them is skipped."""
         for node in reversed([it for it in nodes if it is not None]):
             self.left.append((node, scope, conditional))
 
     def _children(self, node: ast.AST, scope: Scope, conditional: bool) -> None:
+        """Puts the children of a node on the stack, except leaves. All are conditional if the node may skip one of them."""
         inside = conditional or isinstance(node, CONDITIONAL)
         found: List[ast.AST] = []
         for name in node._fields:
@@ -158,11 +168,14 @@ class _Reader:
         self.left += [(it, scope, inside) for it in reversed(found)]
 
     def bind(self, name: str, binding: Binding, scope: Scope) -> None:
-        """Notes a binding. Its scope is settled at the end, once all `global` and `nonlocal` have been read."""
+        """Notes that code in `scope` binds a name. `global` and `nonlocal` are taken into account at the end of the walk."""
         self.bound.append((scope, name, binding))
 
     def target(self, node: ast.AST, value: Optional[ast.AST], scope: Scope, kind: str, conditional: bool) -> None:
-        """Reads a target of an assignment. The parts of a tuple or a list get the parts of a value of the same form."""
+        """Reads a target of an assignment. The parts of a tuple or a list get the parts of a value of the same form.
+
+        The kind of a name's binding is "value", or `kind` if `value` is None because the value isn't known.
+        """
         if isinstance(node, ast.Name):
             known = "value" if value is not None else kind
             self.bind(node.id, Binding(known, node.lineno, value, scope, conditional=conditional), scope)
@@ -188,7 +201,10 @@ class _Reader:
             self.found.aliases.append((name, source))
 
     def _loop_target(self, node: ast.AST, loop: Any, outside: Scope, scope: Scope, part: Tuple[Tuple[int, int], ...]) -> None:
-        """Reads a target of a loop; `part` says how an item is unpacked down to it. The loop's items are read in `outside`."""
+        """Reads a target of a loop or comprehension, which is bound in `scope`; `outside` is where its iterable is read.
+
+        `part` says how an item is unpacked down to the target, as in `Binding`.
+        """
         if isinstance(node, ast.Name):
             binding = Binding("loop", node.lineno, loop.iter, outside, conditional=True, loop=loop, part=part)
             self.bind(node.id, binding, scope)
@@ -200,16 +216,17 @@ class _Reader:
             self.target(node, None, scope, "loop", True)
 
     def _open_if_globals(self, node: ast.AST, scope: Scope) -> None:
-        """Notes that names of the module may be bound by their text if a node is a call of `globals`.
+        """Notes in `is_open` that names of the module may be bound by their text, if a node is the call `globals()`.
 
-        At the top level of the module, `vars` and `locals` count too.
+        `vars()` and `locals()` count too if `scope` is the module's. Calls with positional arguments, and other nodes, change
+        nothing.
         """
         if isinstance(node, ast.Call) and isinstance(node.func, ast.Name) and not node.args:
             if node.func.id == "globals" or (node.func.id in ("vars", "locals") and scope.kind == "module"):
                 self.found.is_open = True
 
     def function(self, node: Any, scope: Scope, conditional: bool) -> None:
-        """Reads a function: its head in the scope around it, its body in a scope of its own."""
+        """Reads a function or lambda: its decorators and defaults in the scope around it, its body in a scope of its own."""
         inside = self._open_scope("function", node, scope, conditional)
         if not isinstance(node, ast.Lambda):
             self.bind(node.name, Binding("function", node.lineno, node, scope, inside=inside, conditional=conditional), scope)
@@ -223,13 +240,13 @@ class _Reader:
         self.bind(node.name, Binding("class", node.lineno, node, scope, inside=inside, conditional=conditional), scope)
 
     def comprehension(self, node: Any, scope: Scope, conditional: bool) -> None:
-        """Reads a comprehension: what its first loop goes through in the scope around it, the rest in a scope of its own."""
+        """Reads a comprehension: what its first loop goes over in the scope around it, the rest in a scope of its own."""
         inside = self._open_scope("comprehension", node, scope, conditional)
         for number, it in enumerate(node.generators):
             self._loop_target(it.target, it, scope if number == 0 else inside, inside, ())
 
     def _open_scope(self, kind: str, node: ast.AST, scope: Scope, conditional: bool) -> Scope:
-        """Creates the scope of a node, and queues the parts of the node for reading.
+        """Creates and returns the scope of a node, and puts the parts of the node on the stack.
 
         Parts that belong outside are read in `scope`. Parts inside count as conditional only in a comprehension, where they
         may be run any number of times, or never.
@@ -242,7 +259,7 @@ class _Reader:
         return inside
 
     def type_name(self, node: Any, scope: Scope, conditional: bool) -> None:
-        """Reads a type parameter."""
+        """Reads a type parameter, such as `T` in `class A[T]`, which is bound in `scope`."""
         self.bind(node.name, Binding("type parameter", node.lineno), scope)
         self._children(node, scope, conditional)
 
@@ -253,7 +270,7 @@ class _Reader:
         self._put([node.value], scope, conditional)
 
     def annotated(self, node: ast.AnnAssign, scope: Scope, conditional: bool) -> None:
-        """Reads an assignment with a type. Without a value it only makes the name local to its function."""
+        """Reads an assignment with a type. Without a value it binds nothing, but makes a name local if it is in a function."""
         if node.value is not None:
             self.target(node.target, node.value, scope, "value", conditional)
         elif isinstance(node.target, ast.Name) and scope.kind == "function":
@@ -261,7 +278,7 @@ class _Reader:
         self._put([node.value, node.annotation], scope, conditional)
 
     def augmented(self, node: ast.AugAssign, scope: Scope, conditional: bool) -> None:
-        """Reads an augmented assignment, such as `+=`."""
+        """Reads an augmented assignment, such as `+=`: a binding that isn't followed, and a change in place."""
         self.target(node.target, None, scope, "changed", conditional)
         if isinstance(node.target, (ast.Name, ast.Attribute)):
             self.found.changed.append((node.target, scope))
@@ -273,32 +290,32 @@ class _Reader:
         self._put([node.value], scope, conditional)
 
     def loop(self, node: Any, scope: Scope, conditional: bool) -> None:
-        """Reads a `for` loop."""
+        """Reads a `for` loop, whose body and `else` are conditional."""
         self._loop_target(node.target, node, scope, scope, ())
         self._put([node.iter], scope, conditional)
         self._put([*node.body, *node.orelse], scope, True)
 
     def with_item(self, node: ast.withitem, scope: Scope, conditional: bool) -> None:
-        """Reads an item of `with`."""
+        """Reads an item of `with`; the binding of its target isn't followed."""
         if node.optional_vars is not None:
             self.target(node.optional_vars, None, scope, "with", conditional)
         self._put([node.context_expr], scope, conditional)
 
     def handler(self, node: ast.ExceptHandler, scope: Scope, conditional: bool) -> None:
-        """Reads an `except` clause."""
+        """Reads an `except` clause, all of which is conditional."""
         if node.name:
             self.bind(node.name, Binding("except", node.lineno), scope)
         self._put([node.type, *node.body], scope, True)
 
     def capture(self, node: Any, scope: Scope, conditional: bool) -> None:
-        """Reads a part of a `case` that may bind a name."""
+        """Reads a part of a `case` that may bind a name, as in `case NAME`; the binding isn't followed."""
         name = scoping.named_by_text(node)
         if name:
             self.bind(name, Binding("match", node.lineno), scope)
         self._children(node, scope, True)
 
     def deleted(self, node: ast.Delete, scope: Scope, conditional: bool) -> None:
-        """Reads `del`, which counts as a binding that can't be followed."""
+        """Reads `del`, which counts as a binding that isn't followed."""
         for it in node.targets:
             self.target(it, None, scope, "deleted", conditional)
 
@@ -310,7 +327,7 @@ class _Reader:
             self.bind(name, Binding("import", node.lineno, module=module, conditional=conditional), scope)
 
     def imports_from(self, node: ast.ImportFrom, scope: Scope, conditional: bool) -> None:
-        """Reads `from .a import b`, or `from .a import *`."""
+        """Reads `from .a import b`, which binds `b`, or `from .a import *`, which is noted in `stars`."""
         module = "." * node.level + (node.module or "")
         self.found.imported.add(module.split(".")[0])
         self.found.stars += [(module, node.lineno) for it in node.names if it.name == "*"]
@@ -319,11 +336,14 @@ class _Reader:
             self.bind(name, binding, scope)
 
     def outer(self, node: Any, scope: Scope, conditional: bool) -> None:
-        """Reads `global` or `nonlocal`."""
+        """Notes in the scope the names that a `global` or `nonlocal` declares."""
         scope.declare(node)
 
     def call(self, node: ast.Call, scope: Scope, conditional: bool) -> None:
-        """Reads a call. Calls that change an object in place, or that set names or attributes by their text, are noted."""
+        """Notes a call, and what it may change: an object in place, names by their text, or an attribute.
+
+        Such calls are methods in CHANGING, `exec` with one argument at the top level of the module, `setattr` and `delattr`.
+        """
         self.found.calls.append((node, scope))
         function = node.func
         if isinstance(function, ast.Attribute) and function.attr in CHANGING:
@@ -337,18 +357,21 @@ class _Reader:
         self._children(node, scope, conditional)
 
     def _set_by_name(self, node: ast.Call, scope: Scope) -> None:
-        """Notes the attribute that a call of `setattr` or `delattr` sets, if its name is a constant."""
+        """Notes in `stores` the attribute that a call of `setattr` or `delattr` sets, if its name is a constant text."""
         name = node.args[1]
         if isinstance(name, ast.Constant) and isinstance(name.value, str):
             self.found.stores.setdefault(name.value, []).append(Store(name.value, node.args[0], scope, None, node.lineno))
 
     def alias(self, node: Any, scope: Scope, conditional: bool) -> None:
-        """Reads a type alias, `type X = ..`."""
+        """Reads a type alias, `type X = ..`; the binding isn't followed, and the type isn't read."""
         self.target(node.name, None, scope, "type", conditional)
 
 
 def _parts(targets: List[ast.expr], value: Optional[ast.AST]) -> List[Optional[ast.AST]]:
-    """The part of a value for each target, or None for each if their numbers differ or a star is among them."""
+    """The part of a value for each target; None for each if the value is no tuple or list, has another length, or has a star.
+
+    A star among the targets gives None for each too.
+    """
     if isinstance(value, (ast.Tuple, ast.List)) and len(value.elts) == len(targets):
         if not any(isinstance(it, ast.Starred) for it in [*targets, *value.elts]):
             return list(value.elts)
@@ -380,5 +403,5 @@ READERS: Dict[str, Callable[[_Reader, Any, Scope, bool], None]] = {
 
 
 def read_scopes(tree: ast.Module) -> Scopes:
-    """Returns what a parsed source binds, calls and changes in place."""
+    """Returns the scopes of a parsed source, and what it calls and changes in place."""
     return _Reader(tree).read()

@@ -22,12 +22,21 @@ KEYS: Mapping[str, type] = {
 
 
 class TakersError(Exception):
-    """Raised if a row of the table is wrong; the message names the row and what is wrong with it."""
+    """Raised if a row of the table is wrong, or a file of rows can't be read; the message says which and why."""
 
 
 @dataclass(frozen=True)
 class Taker:
-    """A row of the table: a function, a method or an attribute that takes a pattern."""
+    """A row of the table: functions, a method or an attribute that take a pattern.
+
+    `name` is shown to people, and `mode` is how the pattern is used: search, match or fullmatch. `calls` are full dotted names
+    of functions. `method` is the name of a method, perhaps with names before it, as in "str.match". `attribute` is a form for
+    `fnmatch` of the names that hold a pattern, in classes with one of the bases in `classes`; `shape` is how they hold it.
+    `pattern` and `flags` are the positions of the arguments, from 0, or -1; `keywords` and `flags_keyword` are their names.
+    `always` are the flags if the call gives none. A method or an attribute counts only if the file imports the module `needs`.
+    A method counts only in calls with all keyword arguments in `when` and none in `unless`. `note` is added to each pattern.
+    `engine` is re or regex. `is_list` says that the argument may be a list of patterns.
+    """
 
     name: str
     mode: str
@@ -50,25 +59,21 @@ class Taker:
 
 
 def own_rows() -> List[Mapping[str, Any]]:
-    """Returns the package's own rows as they are in its TOML file."""
+    """Returns the package's own rows, as tables of TOML."""
     rows: List[Mapping[str, Any]] = read_toml(TABLE.read_text(encoding="utf-8"))["taker"]
     return rows
 
 
-def own_takers() -> Tuple[Taker, ...]:
-    """Returns the package's own rows."""
-    return takers_of(own_rows())
-
-
 def takers_of(rows: Sequence[Mapping[str, Any]]) -> Tuple[Taker, ...]:
-    """Returns the takers that rows of TOML describe. Raises TakersError if a row is wrong."""
+    """Returns the takers that rows of TOML describe, in order. Raises TakersError if a row is wrong."""
     return tuple(taker_of(row, f"row {number} of takers") for number, row in enumerate(rows, 1))
 
 
 def read_takers(file: str) -> Tuple[List[Mapping[str, Any]], List[str]]:
     """Returns the right rows of a file, and a line for each wrong one. Raises TakersError if the file can't be read.
 
-    The rows are the list `taker` of the file or, if it has none, of its table `[tool.relint.wide]`.
+    The rows are the list `taker` of the file or, if it has none, of its table `[tool.relint.wide]`; none if that is missing.
+    Raises TakersError too if `tool`, `relint` or `wide` is there and no table.
     """
     try:
         found = read_toml(read_named(file, LARGEST_TABLE).decode("utf-8"))
@@ -82,7 +87,10 @@ def read_takers(file: str) -> Tuple[List[Mapping[str, Any]], List[str]]:
 
 
 def right_rows(rows: Any, where: str) -> Tuple[List[Mapping[str, Any]], List[str]]:
-    """Returns the right rows of a list, and a line for each wrong one. `where` names the file that the rows are from."""
+    """Returns the right rows of a list, and a line for each wrong one. `where` names the file that the rows are from.
+
+    If `rows` isn't a list, it counts as a list with `rows` as its only item.
+    """
     right: List[Mapping[str, Any]] = []
     wrong: List[str] = []
     for number, row in enumerate(rows if isinstance(rows, list) else [rows], 1):
@@ -123,7 +131,10 @@ def _check_key(key: str, value: Any, place: str) -> None:
 
 
 def _made(row: Dict[str, Any], place: str) -> Taker:
-    """The taker of a row whose keys and values are right. Raises TakersError for an unknown flag."""
+    """The taker of a row whose keys and values are right. Raises TakersError for an unknown flag.
+
+    Its name is the last part of the first call or, without calls, the method or else the attribute.
+    """
     always = 0
     for it in row.get("always", []):
         if it not in NAMES:
@@ -141,4 +152,5 @@ def _made(row: Dict[str, Any], place: str) -> Taker:
 
 
 def _pairs(row: Mapping[str, Any], key: str) -> Tuple[Tuple[str, Any], ...]:
+    """The names and values in the table under a key of a row, sorted by name; none if the row lacks the key."""
     return tuple(sorted(row.get(key, {}).items()))

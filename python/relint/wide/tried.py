@@ -27,16 +27,19 @@ ALLOWED = 0.6
 
 @dataclass(frozen=True)
 class Hang:
-    """What was seen of a pattern that hung: the entry of its loosened form, with the family that was tried, and the match."""
+    """A pattern that hung: `entry` is that of its loosened form, with the family that was tried, and `seen` is the match.
+
+    The class of the entry is the one that was seen, if that is lower than the form's own.
+    """
 
     entry: Entry
     seen: Seen
 
 
 def steady(times: Sequence[Tuple[int, float]]) -> List[Tuple[int, float]]:
-    """Returns the times by rising length, each lowered to the least time of any longer text.
+    """Returns the pairs of a length and its seconds by rising length, each time lowered to the least time of any longer text.
 
-    A text that took more time than a longer one was disturbed.
+    A text that took more time than a longer one counts as disturbed by something else.
     """
     found: List[Tuple[int, float]] = []
     least = math.inf
@@ -47,10 +50,11 @@ def steady(times: Sequence[Tuple[int, float]]) -> List[Tuple[int, float]]:
 
 
 def power_of(outcome: Outcome, seconds: float) -> float:
-    """Returns the power of the length with which the times grew up to the match that exceeded the limit, or 0 if none did.
+    """Returns the power of the length with which the times grew up to the match that exceeded the limit of `seconds`.
 
     The growth is measured from the first text whose time is long enough to be compared, and from the text before it; the
-    larger power is returned.
+    larger power is returned. Returns 0 if nothing was tried, or if there is no time of a shorter text that isn't empty.
+    `outcome` must be CONFIRMED or NOT_TRIED; for NOT_SEEN, the limit itself would count as the last time.
     """
     if outcome.length is None:
         return 0.0
@@ -64,9 +68,10 @@ def power_of(outcome: Outcome, seconds: float) -> float:
 
 
 def seen_class(entry: Entry, power: float, max_degree: int) -> Optional[Entry]:
-    """Returns the entry if the times grew at least as its class says, otherwise the entry with the degree that was seen.
+    """Returns the entry if the times grew about as its class says, otherwise the entry with the degree that was seen.
 
-    Returns None if that degree isn't a finding.
+    `power` is the power of the length with which they grew: at least LEAST_EXPONENTIAL is as an exponential class says, and at
+    least the degree minus ALLOWED as another says. Returns None if the degree that was seen isn't above `max_degree`.
     """
     if power >= (LEAST_EXPONENTIAL if entry.kind == "exponential" else (entry.degree or 0) - ALLOWED):
         return entry
@@ -75,7 +80,11 @@ def seen_class(entry: Entry, power: float, max_degree: int) -> Optional[Entry]:
 
 
 def chosen(all_forms: Sequence[Tuple[Form, Optional[Entry]]], max_degree: int) -> List[Tuple[Form, Entry]]:
-    """Returns the forms whose class is a finding, each family once, the worst first, and at most MOST_TRIALS."""
+    """Returns the forms whose class is a finding, the worst first, and at most MOST_TRIALS of them.
+
+    Each form comes with relint's entry for it, or None. Of forms with the same family only the first is returned, and of those
+    without a family none.
+    """
     found: Dict[object, Tuple[Form, Entry]] = {}
     for form, entry in all_forms:
         if entry is not None and entry.family is not None and entry.is_finding(max_degree):
@@ -86,16 +95,18 @@ def chosen(all_forms: Sequence[Tuple[Form, Optional[Entry]]], max_degree: int) -
 def hangs(
     asked: Iterable[Tuple[Question, bool]], max_degree: int, options: Sequence[str], trials: Trials, jobs: int,
 ) -> Dict[Question, Hang]:
-    """Returns the patterns that were seen to hang. Each pattern in `asked` comes with whether relint left it undecided.
+    """Returns the patterns that were seen to hang, with what was seen.
 
-    relint judges the forms of all patterns first, and then each pattern is tried. `trials` is stopped at the end. Raises
-    JudgeError and ProgramError.
+    Each pattern in `asked` comes with whether relint left it undecided. relint judges the loosened forms of all patterns, with
+    these `options`, and then each pattern is tried on texts that are slow for its forms, `jobs` patterns at a time, at least
+    one. Then `trials` is stopped. Raises JudgeError and ProgramError as `judged` does, and OSError if no trial can be started.
     """
     made = {question: forms(question.pattern, question.flags, undecided) for question, undecided in asked}
     questions = {(question, form): replace(question, pattern=form.pattern) for question, its in made.items() for form in its}
     entries = judged(questions.values(), options, jobs)
 
     def seen(question: Question) -> Optional[Hang]:
+        """Returns the hang of a pattern, or None if none was seen."""
         its = [(form, entries.get(questions[question, form])) for form in made[question]]
         return _seen(question, chosen(its, max_degree), trials, max_degree)
 
@@ -108,7 +119,11 @@ def hangs(
 
 
 def _seen(question: Question, its: Sequence[Tuple[Form, Entry]], trials: Trials, max_degree: int) -> Optional[Hang]:
-    """The hang of a pattern that the first of these forms shows, or None if none of them does."""
+    """The hang of a pattern on texts of the first of the forms `its` on which it hangs, or None if it hangs on none.
+
+    Each form comes with relint's entry for it, whose family gives the texts. The pattern hangs if a match takes the limit of
+    `trials`, and the times grew with a class that is a finding under `max_degree`, as in `seen_class`.
+    """
     site, seconds = Site((), question.pattern, question.flags), trials.limits.seconds
     for form, entry in its:
         entry = replace(entry, call=question.mode)
