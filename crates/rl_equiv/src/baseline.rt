@@ -176,4 +176,22 @@ impl Baseline {
         self.walk = Some(walk);
         Ok(found)
     }
+
+    /// Returns the automaton of the tree, matched to the end of the text. The tree and what earlier comparisons found are
+    /// dropped.
+    pub fn into_automaton(self) -> Prio
+        ensures { IsBase self.universe (tree_of self.tree) result }
+    {
+        let Baseline {
+            tree,
+            universe: _,
+            automaton,
+            walk,
+        } = self;
+        drop(tree);
+        drop(walk);
+        // Reading the number of states shows that it is a whole automaton.
+        let _states = automaton.states();
+        automaton
+    }
 }

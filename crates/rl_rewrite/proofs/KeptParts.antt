@@ -1,7 +1,8 @@
--- What is left of a part without one more branch is the tree of what is left without some branches, and its flags tell which
+-- What is left of a part without further branches is the tree of what is left without some branches, and its flags tell which
 -- places are kept.
 use Rattle.std.proofs.Common.{◌≡◌, ◌+◌, Bool, true, false, not, ◌&&◌, ◌||◌, if◌then◌else◌, List, [], ◌∷◌, ◌++◌, replicate, refl, sym, ap, ◌∙◌, subst}
 use Rattle.std.proofs.lemmas.List.{append-nil, replicate-append-replicate}
+use mathlib.Core.Path.{fun_ext}
 use Rattle.rl_syntax.specs.declared.span.Span.{Span}
 use Rattle.rl_syntax.specs.Lowering.{one_of, lowered, items_lowered, branches_lowered, guard_of, boundary_guard}
 use Rattle.rl_syntax.specs.PatTree as p
@@ -49,6 +50,10 @@ none_of no_part = refl
 none_of (out_part {t = t} e no_part) = append-nil (replicate (places t) false)
 none_of (out_part {t = t} e (out_part {m = m} {t = u} {ts = us} f h)) = gone_both (replicate (places t) false) (replicate (places u) false ++ m) t (one_of (u ∷ us)) refl (none_of (out_part f h))
 
+or_assoc : (a b c : Bool) → ((a || b) || c) ≡ (a || (b || c))
+or_assoc true b c = refl
+or_assoc false b c = refl
+
 or_both : (a b : Bool) → a ≡ false → b ≡ false → (a || b) ≡ false
 or_both a b e f = ap (λ x. x || b) e ∙ f
 
@@ -67,78 +72,94 @@ one_without ss ts (in_part {k = k} {s = s} {t = t} h no_part) some = subst (λ l
 one_without ss ts (in_part {k = k} {m = m} {s = s} {t = t} {ss = []} {ts = u ∷ us} h hs) some = subst (λ l. Without (k ++ l) s (either t (one_of (u ∷ us)))) (sym (none_of hs)) (second_goes (none_empty u us hs) h)
 one_without ss ts (in_part {ss = r ∷ rs} {ts = u ∷ us} h hs) some = in_either h (one_without (r ∷ rs) (u ∷ us) hs (λ e. cc e))
 
-module _ (drop : Span → Bool) (b : Span) where
-  gone_branch : (d : Bool) (s : Span) (q : p.PatTree) (bs : p.BranchTrees) → Gone (flags_in drop b false q) (lowered (remaining drop no_span q)) (lowered (remaining drop no_span q)) → Each Gone gone_of_parts (branches_flags drop b false bs) (branches_lowered (remaining_branches drop no_span bs)) (branches_lowered (remaining_branches drop no_span bs))
-      → Each Gone gone_of_parts (if d then branches_flags drop b false bs else flags_in drop b false q ++ branches_flags drop b false bs) (branches_lowered (if d then remaining_branches drop no_span bs else p.branch s (remaining drop no_span q) (remaining_branches drop no_span bs))) (branches_lowered (if d then remaining_branches drop no_span bs else p.branch s (remaining drop no_span q) (remaining_branches drop no_span bs)))
+module _ (drop gone : Span → Bool) where
+  gone_branch : (d : Bool) (s : Span) (q : p.PatTree) (bs : p.BranchTrees) → Gone (flags_in drop gone false q) (lowered (remaining drop no_span q)) (lowered (remaining drop no_span q)) → Each Gone gone_of_parts (branches_flags drop gone false bs) (branches_lowered (remaining_branches drop no_span bs)) (branches_lowered (remaining_branches drop no_span bs))
+      → Each Gone gone_of_parts (if d then branches_flags drop gone false bs else flags_in drop gone false q ++ branches_flags drop gone false bs) (branches_lowered (if d then remaining_branches drop no_span bs else p.branch s (remaining drop no_span q) (remaining_branches drop no_span bs))) (branches_lowered (if d then remaining_branches drop no_span bs else p.branch s (remaining drop no_span q) (remaining_branches drop no_span bs)))
   gone_branch true s q bs h hs = hs
   gone_branch false s q bs h hs = one_each h hs
 
   -- The flags of a part that goes.
   mutual
-    gone_flags : (q : p.PatTree) → Gone (flags_in drop b false q) (lowered (remaining drop no_span q)) (lowered (remaining drop no_span q))
+    gone_flags : (q : p.PatTree) → Gone (flags_in drop gone false q) (lowered (remaining drop no_span q)) (lowered (remaining drop no_span q))
     gone_flags (p.nothing s) = refl
     gone_flags (p.class s set) = refl
     gone_flags (p.seq s qs) = each_turn Gone gone_of_parts (gone_items qs)
-    gone_flags (p.choice s bs) = subst (λ t. flags_in drop b false (p.choice s bs) ≡ replicate (places t) false) (sym (choice_tree s (remaining_branches drop no_span bs))) (each_one Gone gone_of_parts (gone_branches bs))
-    gone_flags (p.repeat s r l m g q) = of_times Gone gone_of_parts l m g (flags_in drop b false q) (lowered (remaining drop no_span q)) (lowered (remaining drop no_span q)) (gone_flags q)
+    gone_flags (p.choice s bs) = subst (λ t. flags_in drop gone false (p.choice s bs) ≡ replicate (places t) false) (sym (choice_tree s (remaining_branches drop no_span bs))) (each_one Gone gone_of_parts (gone_branches bs))
+    gone_flags (p.repeat s r l m g q) = of_times Gone gone_of_parts l m g (flags_in drop gone false q) (lowered (remaining drop no_span q)) (lowered (remaining drop no_span q)) (gone_flags q)
     gone_flags (p.group s c q) = gone_flags q
     gone_flags (p.anchor s k m) = refl
     gone_flags (p.boundary s n a) = refl
     gone_flags (p.outside s f) = refl
 
-    gone_items : (qs : p.PatTrees) → Each Gone gone_of_parts (items_flags drop b false qs) (items_lowered (remaining_items drop no_span qs)) (items_lowered (remaining_items drop no_span qs))
+    gone_items : (qs : p.PatTrees) → Each Gone gone_of_parts (items_flags drop gone false qs) (items_lowered (remaining_items drop no_span qs)) (items_lowered (remaining_items drop no_span qs))
     gone_items p.no_items = no_each
     gone_items (p.item q qs) = one_each (gone_flags q) (gone_items qs)
 
-    gone_branches : (bs : p.BranchTrees) → Each Gone gone_of_parts (branches_flags drop b false bs) (branches_lowered (remaining_branches drop no_span bs)) (branches_lowered (remaining_branches drop no_span bs))
+    gone_branches : (bs : p.BranchTrees) → Each Gone gone_of_parts (branches_flags drop gone false bs) (branches_lowered (remaining_branches drop no_span bs)) (branches_lowered (remaining_branches drop no_span bs))
     gone_branches p.no_branches = no_each
     gone_branches (p.branch s q bs) = gone_branch (drop s) s q bs (gone_flags q) (gone_branches bs)
 
-module _ (dropped : List Span) (b : Span) where
+module _ (drop gone : Span → Bool) where
+  -- The branches that are dropped already, and those that go too.
+  abbrev both : Span → Bool
+  both s = gone s || drop s
+
   -- One more branch, which was dropped, goes now or is kept.
   part_branch : (a d : Bool) (s : Span) (q : p.PatTree) (bs : p.BranchTrees)
-      → Part (branches_flags (among dropped) b true bs) (branches_lowered (remaining_branches (among (b ∷ dropped)) no_span bs)) (branches_lowered (remaining_branches (among dropped) no_span bs))
-      → (d ≡ false → a ≡ true → spans_empty (among dropped) q ≡ false)
-      → (d ≡ false → a ≡ false → Without (flags_in (among dropped) b true q) (lowered (remaining (among (b ∷ dropped)) no_span q)) (lowered (remaining (among dropped) no_span q)))
-      → Part (if d then branches_flags (among dropped) b true bs else flags_in (among dropped) b (true && not a) q ++ branches_flags (among dropped) b true bs) (branches_lowered (if (a || d) then remaining_branches (among (b ∷ dropped)) no_span bs else p.branch s (remaining (among (b ∷ dropped)) no_span q) (remaining_branches (among (b ∷ dropped)) no_span bs))) (branches_lowered (if d then remaining_branches (among dropped) no_span bs else p.branch s (remaining (among dropped) no_span q) (remaining_branches (among dropped) no_span bs)))
+      → Part (branches_flags drop gone true bs) (branches_lowered (remaining_branches both no_span bs)) (branches_lowered (remaining_branches drop no_span bs))
+      → (d ≡ false → a ≡ true → spans_empty drop q ≡ false)
+      → (d ≡ false → a ≡ false → Without (flags_in drop gone true q) (lowered (remaining both no_span q)) (lowered (remaining drop no_span q)))
+      → Part (if d then branches_flags drop gone true bs else flags_in drop gone (true && not a) q ++ branches_flags drop gone true bs) (branches_lowered (if (a || d) then remaining_branches both no_span bs else p.branch s (remaining both no_span q) (remaining_branches both no_span bs))) (branches_lowered (if d then remaining_branches drop no_span bs else p.branch s (remaining drop no_span q) (remaining_branches drop no_span bs)))
   part_branch true true s q bs h f g = h
   part_branch false true s q bs h f g = h
   part_branch true false s q bs h f g =
-      subst (λ l. Part (l ++ branches_flags (among dropped) b true bs) (branches_lowered (remaining_branches (among (b ∷ dropped)) no_span bs)) (lowered (remaining (among dropped) no_span q) ∷ branches_lowered (remaining_branches (among dropped) no_span bs))) (sym (gone_flags (among dropped) b q))
-      (out_part (left_empty (among dropped) q ∙ f refl refl) h)
+      subst (λ l. Part (l ++ branches_flags drop gone true bs) (branches_lowered (remaining_branches both no_span bs)) (lowered (remaining drop no_span q) ∷ branches_lowered (remaining_branches drop no_span bs))) (sym (gone_flags drop gone q))
+      (out_part (left_empty drop q ∙ f refl refl) h)
   part_branch false false s q bs h f g = in_part (g refl refl) h
 
   mutual
-    pub kept_flags : (q : p.PatTree) → may_go (among (b ∷ dropped)) q ≡ true → loses_empty (among dropped) b q ≡ false → Without (flags_in (among dropped) b true q) (lowered (remaining (among (b ∷ dropped)) no_span q)) (lowered (remaining (among dropped) no_span q))
+    kept_flags : (q : p.PatTree) → may_go both q ≡ true → loses_empty drop gone q ≡ false → Without (flags_in drop gone true q) (lowered (remaining both no_span q)) (lowered (remaining drop no_span q))
     kept_flags (p.nothing s) h n = whole {t = empty}
     kept_flags (p.class s set) h n = whole {t = one set}
     kept_flags (p.seq s qs) h n = each_turn Without without_of_parts (kept_items qs h n)
     kept_flags (p.choice s bs) h n =
-        subst (λ t. Without (branches_flags (among dropped) b true bs) t (lowered (choice_of s (remaining_branches (among dropped) no_span bs)))) (sym (choice_tree s (remaining_branches (among (b ∷ dropped)) no_span bs)))
-        (subst (λ t. Without (branches_flags (among dropped) b true bs) (one_of (branches_lowered (remaining_branches (among (b ∷ dropped)) no_span bs))) t) (sym (choice_tree s (remaining_branches (among dropped) no_span bs)))
-        (one_without (branches_lowered (remaining_branches (among (b ∷ dropped)) no_span bs)) (branches_lowered (remaining_branches (among dropped) no_span bs))
-        (kept_branches bs (and_second (some_kept (among (b ∷ dropped)) bs) (branches_may_go (among (b ∷ dropped)) bs) h) n)
-        (kept_some (among (b ∷ dropped)) (among (b ∷ dropped)) no_span (λ s e. e) bs (and_first (some_kept (among (b ∷ dropped)) bs) (branches_may_go (among (b ∷ dropped)) bs) h))))
-    kept_flags (p.repeat s r l m g q) h n = of_times Without without_of_parts l m g (flags_in (among dropped) b true q) (lowered (remaining (among (b ∷ dropped)) no_span q)) (lowered (remaining (among dropped) no_span q)) (kept_flags q h n)
+        subst (λ t. Without (branches_flags drop gone true bs) t (lowered (choice_of s (remaining_branches drop no_span bs)))) (sym (choice_tree s (remaining_branches both no_span bs)))
+        (subst (λ t. Without (branches_flags drop gone true bs) (one_of (branches_lowered (remaining_branches both no_span bs))) t) (sym (choice_tree s (remaining_branches drop no_span bs)))
+        (one_without (branches_lowered (remaining_branches both no_span bs)) (branches_lowered (remaining_branches drop no_span bs))
+        (kept_branches bs (and_second (some_kept both bs) (branches_may_go both bs) h) n)
+        (kept_some both both no_span (λ s e. e) bs (and_first (some_kept both bs) (branches_may_go both bs) h))))
+    kept_flags (p.repeat s r l m g q) h n = of_times Without without_of_parts l m g (flags_in drop gone true q) (lowered (remaining both no_span q)) (lowered (remaining drop no_span q)) (kept_flags q h n)
     kept_flags (p.group s c q) h n = kept_flags q h n
     kept_flags (p.anchor s k m) h n = whole {t = guard (guard_of k m)}
     kept_flags (p.boundary s i a) h n = whole {t = guard (boundary_guard i a)}
     kept_flags (p.outside s f) h n = whole {t = empty}
 
-    kept_items : (qs : p.PatTrees) → items_may_go (among (b ∷ dropped)) qs ≡ true → items_lose_empty (among dropped) b qs ≡ false → Each Without without_of_parts (items_flags (among dropped) b true qs) (items_lowered (remaining_items (among (b ∷ dropped)) no_span qs)) (items_lowered (remaining_items (among dropped) no_span qs))
+    kept_items : (qs : p.PatTrees) → items_may_go both qs ≡ true → items_lose_empty drop gone qs ≡ false → Each Without without_of_parts (items_flags drop gone true qs) (items_lowered (remaining_items both no_span qs)) (items_lowered (remaining_items drop no_span qs))
     kept_items p.no_items h n = no_each
     kept_items (p.item q qs) h n =
-        let m = or_none (loses_empty (among dropped) b q) (items_lose_empty (among dropped) b qs) n in
-        one_each (kept_flags q (and_first (may_go (among (b ∷ dropped)) q) (items_may_go (among (b ∷ dropped)) qs) h) m.0) (kept_items qs (and_second (may_go (among (b ∷ dropped)) q) (items_may_go (among (b ∷ dropped)) qs) h) m.1)
+        let m = or_none (loses_empty drop gone q) (items_lose_empty drop gone qs) n in
+        one_each (kept_flags q (and_first (may_go both q) (items_may_go both qs) h) m.0) (kept_items qs (and_second (may_go both q) (items_may_go both qs) h) m.1)
 
-    kept_branches : (bs : p.BranchTrees) → branches_may_go (among (b ∷ dropped)) bs ≡ true → branches_lose_empty (among dropped) b bs ≡ false → Part (branches_flags (among dropped) b true bs) (branches_lowered (remaining_branches (among (b ∷ dropped)) no_span bs)) (branches_lowered (remaining_branches (among dropped) no_span bs))
+    kept_branches : (bs : p.BranchTrees) → branches_may_go both bs ≡ true → branches_lose_empty drop gone bs ≡ false → Part (branches_flags drop gone true bs) (branches_lowered (remaining_branches both no_span bs)) (branches_lowered (remaining_branches drop no_span bs))
     kept_branches p.no_branches h n = no_part
     kept_branches (p.branch s q bs) h n =
-        let one_goes = if among (b ∷ dropped) s then not (holds_capture q) else may_go (among (b ∷ dropped)) q in
-        let one_loses = if among dropped s then false else if same_span b s then spans_empty (among dropped) q else loses_empty (among dropped) b q in
-        let m = or_none one_loses (branches_lose_empty (among dropped) b bs) n in
-        part_branch (same_span b s) (among dropped s) s q bs (kept_branches bs (and_second one_goes (branches_may_go (among (b ∷ dropped)) bs) h) m.1)
-        (λ z y. sym (ap (λ d. if d then false else if same_span b s then spans_empty (among dropped) q else loses_empty (among dropped) b q) z ∙ ap (λ a. if a then spans_empty (among dropped) q else loses_empty (among dropped) b q) y) ∙ m.0)
+        let one_goes = if both s then not (holds_capture q) else may_go both q in
+        let one_loses = if drop s then false else if gone s then spans_empty drop q else loses_empty drop gone q in
+        let m = or_none one_loses (branches_lose_empty drop gone bs) n in
+        part_branch (gone s) (drop s) s q bs (kept_branches bs (and_second one_goes (branches_may_go both bs) h) m.1)
+        (λ z y. sym (ap (λ d. if d then false else if gone s then spans_empty drop q else loses_empty drop gone q) z ∙ ap (λ a. if a then spans_empty drop q else loses_empty drop gone q) y) ∙ m.0)
         (λ z y. kept_flags q
-        (sym (ap (λ a. if (a || among dropped s) then not (holds_capture q) else may_go (among (b ∷ dropped)) q) y ∙ ap (λ d. if d then not (holds_capture q) else may_go (among (b ∷ dropped)) q) z) ∙ and_first one_goes (branches_may_go (among (b ∷ dropped)) bs) h)
-        (sym (ap (λ d. if d then false else if same_span b s then spans_empty (among dropped) q else loses_empty (among dropped) b q) z ∙ ap (λ a. if a then spans_empty (among dropped) q else loses_empty (among dropped) b q) y) ∙ m.0))
+        (sym (ap (λ a. if (a || drop s) then not (holds_capture q) else may_go both q) y ∙ ap (λ d. if d then not (holds_capture q) else may_go both q) z) ∙ and_first one_goes (branches_may_go both bs) h)
+        (sym (ap (λ d. if d then false else if gone s then spans_empty drop q else loses_empty drop gone q) z ∙ ap (λ a. if a then spans_empty drop q else loses_empty drop gone q) y) ∙ m.0))
+
+among_both : (gone dropped : List Span) (s : Span) → (among gone s || among dropped s) ≡ among (gone ++ dropped) s
+among_both [] dropped s = refl
+among_both (r ∷ rs) dropped s = or_assoc (same_span r s) (among rs s) (among dropped s) ∙ ap (λ x. same_span r s || x) (among_both rs dropped s)
+
+-- The same for lists of branches.
+pub kept_lists : (dropped gone : List Span) (q : p.PatTree) → may_go (among (gone ++ dropped)) q ≡ true → loses_empty (among dropped) (among gone) q ≡ false
+    → Without (flags_in (among dropped) (among gone) true q) (lowered (remaining (among (gone ++ dropped)) no_span q)) (lowered (remaining (among dropped) no_span q))
+kept_lists dropped gone q h n =
+    let e : (λ (s : Span). among gone s || among dropped s) ≡ among (gone ++ dropped) = fun_ext (among_both gone dropped) in
+    subst (λ b. Without (flags_in (among dropped) (among gone) true q) (lowered (remaining b no_span q)) (lowered (remaining (among dropped) no_span q))) e
+    (kept_flags (among dropped) (among gone) q (ap (λ b. may_go b q) e ∙ h) n)

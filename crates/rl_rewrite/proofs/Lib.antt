@@ -14,4 +14,5 @@ pub mod EmptyParts
 pub mod KeptParts
 pub mod NoGuards
 pub mod JudgedOne
+pub mod BegunTrials
 pub mod Rounds

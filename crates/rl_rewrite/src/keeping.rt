@@ -1,15 +1,15 @@
-//! The places of a part that are kept if one more branch is dropped.
+//! The places of a part that are kept if further branches are dropped.
 //!
 //! The places of a part are the leaves, each of which matches one code, of the tree to which it is lowered. `dropped` has the
-//! spans of the branches that are dropped already, and `gone` is the span of the branch to be dropped next. A repeat is
-//! lowered to several copies of its body.
+//! spans of the branches that are dropped already, and `gone` has the spans of the branches to be dropped next. One of these
+//! may be inside another one. A repeat is lowered to several copies of its body.
 
 ghost use Rattle.std.specs.Prelude.{◌≡◌, ◌∷◌, [], ◌++◌, List, true, map, IfOk, OnOk, IfSome};
 ghost use Rattle.rl_syntax.specs.PatTree.{pat_of, items_of, branches_of};
 ghost use Rattle.rl_syntax.specs.Counting.{branch_tree};
 ghost use Rattle.rl_syntax.specs.Lowering.{lowered};
 ghost use Rattle.rl_pattern.specs.Cut.{remaining};
-ghost use Rattle.rl_pattern.specs.Suggested.{among as lies_among, same_span, no_span, may_go as goes};
+ghost use Rattle.rl_pattern.specs.Suggested.{among as lies_among, no_span, may_go as goes};
 ghost use Rattle.rl_trim.specs.Without.{Without};
 ghost use Rattle.rl_rewrite.specs.internal.Keeping.{copies as copies_of, repeated};
 ghost use Rattle.rl_rewrite.specs.internal.Keeping.{spans_empty, items_span_empty, branch_spans_empty};
@@ -24,13 +24,6 @@ use std::alloc::Global;
 
 /// A flag for each place, from left to right, which says whether the place is kept.
 pub(crate) type Flags = Items<bool>;
-
-/// Returns whether two spans are the same.
-fn is_same(first: Span, second: Span) -> bool
-    ensures { result ≡ same_span first second }
-{
-    first == second
-}
 
 /// Returns whether what is left of a part without the dropped branches may span the empty text. Anchors, boundaries and
 /// features that aren't judged (`Outside`) count as spanning it, and so does a choice without branches.
@@ -88,10 +81,11 @@ fn branch_may_be_empty(branch: &Branch, dropped: &[Span]) -> bool
     }
 }
 
-/// Returns whether the part has a branch with the span `gone`, outside all dropped branches, that may span the empty text.
+/// Returns whether the part has a branch to be dropped next that may span the empty text. Only branches that aren't inside a
+/// dropped branch, nor inside another branch to be dropped next, are looked at.
 #[cycle(losing)]
-fn may_lose_empty(part: &Pat, dropped: &[Span], gone: Span) -> bool
-    ensures { result ≡ loses_empty (lies_among dropped.now) gone (pat_of part.now) }
+fn may_lose_empty(part: &Pat, dropped: &[Span], gone: &[Span]) -> bool
+    ensures { result ≡ loses_empty (lies_among dropped.now) (lies_among gone.now) (pat_of part.now) }
 {
     match part {
         Pat::Nothing { .. }
@@ -105,11 +99,10 @@ fn may_lose_empty(part: &Pat, dropped: &[Span], gone: Span) -> bool
     }
 }
 
-/// Returns whether one of the items has a branch with the span `gone`, outside all dropped branches, that may span the empty
-/// text.
+/// Returns whether `may_lose_empty` returns true for one of the items.
 #[cycle(losing)]
-fn items_may_lose_empty(items: &[Pat], dropped: &[Span], gone: Span) -> bool
-    ensures { result ≡ items_lose_empty (lies_among dropped.now) gone (items_of (map pat_of items.now)) }
+fn items_may_lose_empty(items: &[Pat], dropped: &[Span], gone: &[Span]) -> bool
+    ensures { result ≡ items_lose_empty (lies_among dropped.now) (lies_among gone.now) (items_of (map pat_of items.now)) }
 {
     let mut some = false;
     for item in items {
@@ -122,11 +115,10 @@ fn items_may_lose_empty(items: &[Pat], dropped: &[Span], gone: Span) -> bool
     some
 }
 
-/// Returns whether one of these branches, or of the branches inside them, has the span `gone`, is outside all dropped branches
-/// and may span the empty text.
+/// Returns whether `branch_may_lose_empty` returns true for one of these branches.
 #[cycle(losing)]
-fn branches_may_lose_empty(branches: &[Branch], dropped: &[Span], gone: Span) -> bool
-    ensures { result ≡ branches_lose_empty (lies_among dropped.now) gone (branches_of (map branch_tree branches.now)) }
+fn branches_may_lose_empty(branches: &[Branch], dropped: &[Span], gone: &[Span]) -> bool
+    ensures { result ≡ branches_lose_empty (lies_among dropped.now) (lies_among gone.now) (branches_of (map branch_tree branches.now)) }
 {
     let mut some = false;
     for branch in branches {
@@ -135,16 +127,16 @@ fn branches_may_lose_empty(branches: &[Branch], dropped: &[Span], gone: Span) ->
     some
 }
 
-/// Returns whether this branch, or a branch inside it, has the span `gone`, is outside all dropped branches and may span the
-/// empty text.
+/// Returns whether this branch may span the empty text, if it is to be dropped next. Otherwise, returns whether its body has
+/// such a branch, as `may_lose_empty` does. Returns false if the branch is dropped already.
 #[cycle(losing)]
-fn branch_may_lose_empty(branch: &Branch, dropped: &[Span], gone: Span) -> bool
-    ensures { result ≡ branches_lose_empty (lies_among dropped.now) gone (branches_of (map branch_tree (branch.now ∷ []))) }
+fn branch_may_lose_empty(branch: &Branch, dropped: &[Span], gone: &[Span]) -> bool
+    ensures { result ≡ branches_lose_empty (lies_among dropped.now) (lies_among gone.now) (branches_of (map branch_tree (branch.now ∷ []))) }
 {
     if among(dropped, branch.span) {
         return false;
     }
-    if is_same(gone, branch.span) {
+    if among(gone, branch.span) {
         may_be_empty(&branch.body, dropped)
     } else {
         may_lose_empty(&branch.body, dropped, gone)
@@ -173,18 +165,18 @@ fn put_copies(flags: &[bool], times: u64, found: &mut Vec<bool>) -> Result<(), O
 }
 
 /// Appends to `found` a flag for each place of what is left of a part without the dropped branches, which says whether the
-/// place is kept if the branch with the span `gone` is dropped too. `keep` is false if the part is inside this branch; then
-/// all flags are false.
+/// place is kept if the branches of `gone` are dropped too. `keep` is false if the part is inside one of these; then all flags
+/// are false.
 #[cycle(keeping)]
 fn put_flags(
     alloc: Global,
     part: &Pat,
     dropped: &[Span],
-    gone: Span,
+    gone: &[Span],
     keep: bool,
     found: &mut Vec<bool>,
 ) -> Result<(), OutOfMemory>
-    ensures { OnOk result (found.new.items ≡ found.old.items ++ flags_in (lies_among dropped.now) gone keep (pat_of part.now)) }
+    ensures { OnOk result (found.new.items ≡ found.old.items ++ flags_in (lies_among dropped.now) (lies_among gone.now) keep (pat_of part.now)) }
 {
     match part {
         Pat::Nothing { .. } | Pat::Anchor { .. } | Pat::Boundary { .. } | Pat::Outside { .. } => Ok(
@@ -220,11 +212,11 @@ fn put_items_flags(
     alloc: Global,
     items: &[Pat],
     dropped: &[Span],
-    gone: Span,
+    gone: &[Span],
     keep: bool,
     found: &mut Vec<bool>,
 ) -> Result<(), OutOfMemory>
-    ensures { OnOk result (found.new.items ≡ found.old.items ++ items_flags (lies_among dropped.now) gone keep (items_of (map pat_of items.now))) }
+    ensures { OnOk result (found.new.items ≡ found.old.items ++ items_flags (lies_among dropped.now) (lies_among gone.now) keep (items_of (map pat_of items.now))) }
 {
     for item in items {
         match item {
@@ -242,15 +234,15 @@ fn put_branches_flags(
     alloc: Global,
     branches: &[Branch],
     dropped: &[Span],
-    gone: Span,
+    gone: &[Span],
     keep: bool,
     found: &mut Vec<bool>,
 ) -> Result<(), OutOfMemory>
-    ensures { OnOk result (found.new.items ≡ found.old.items ++ branches_flags (lies_among dropped.now) gone keep (branches_of (map branch_tree branches.now))) }
+    ensures { OnOk result (found.new.items ≡ found.old.items ++ branches_flags (lies_among dropped.now) (lies_among gone.now) keep (branches_of (map branch_tree branches.now))) }
 {
     for branch in branches {
         if !among(dropped, branch.span) {
-            let stays = keep && !is_same(gone, branch.span);
+            let stays = keep && !among(gone, branch.span);
             put_flags(alloc, &branch.body, dropped, gone, stays, found)?;
         }
     }
@@ -258,22 +250,22 @@ fn put_branches_flags(
 }
 
 /// Returns a flag for each place of what is left of a part without the dropped branches, which says whether the place is kept
-/// if the branch with the span `branch` is dropped too. Returns `None` if this branch may span the empty text. The rules must
-/// allow `branch` and the dropped branches to be dropped.
+/// if the branches of `gone` are dropped too. Returns `None` if one of these may span the empty text and isn't inside another
+/// one. The rules must allow the branches of `gone` and the dropped branches to be dropped.
 pub(crate) fn kept_places(
     alloc: Global,
     part: &Pat,
     dropped: &[Span],
-    branch: Span,
+    gone: &[Span],
 ) -> Result<Option<Flags>, OutOfMemory>
-    requires may { goes (lies_among (branch ∷ dropped.now)) (pat_of part.now) ≡ true }
-    ensures { IfOk result (λ o. IfSome o (λ keep. Without keep (lowered (remaining (lies_among (branch ∷ dropped.now)) no_span (pat_of part.now)))
+    requires may { goes (lies_among (gone.now ++ dropped.now)) (pat_of part.now) ≡ true }
+    ensures { IfOk result (λ o. IfSome o (λ keep. Without keep (lowered (remaining (lies_among (gone.now ++ dropped.now)) no_span (pat_of part.now)))
         (lowered (remaining (lies_among dropped.now) no_span (pat_of part.now))))) }
 {
-    if may_lose_empty(part, dropped, branch) {
+    if may_lose_empty(part, dropped, gone) {
         return Ok(None);
     }
     let mut keep = Vec::new(alloc);
-    put_flags(alloc, part, dropped, branch, true, &mut keep)?;
+    put_flags(alloc, part, dropped, gone, true, &mut keep)?;
     Ok(Some(Flags::from_vec(keep)))
 }

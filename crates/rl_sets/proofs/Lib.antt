@@ -10,3 +10,4 @@ pub mod SearchLemmas
 pub mod VisitLemmas
 pub mod ExpandLemmas
 pub mod SearchingLemmas
+pub mod ShorterLemmas

@@ -1,10 +1,12 @@
 -- Lemmas on rows of truth values as sets.
-use Rattle.std.proofs.Common.{◌≡◌, ◌≢◌, ℕ, ◌+◌, ◌<◌, ◌≤◌, ◌⊎◌, Bool, true, false, not, ◌&&◌, ◌||◌, eqb, filter, List, [], ◌∷◌, ◌++◌, length, get_or, set, drop, replicate, refl, sym, ap, ◌∙◌, subst, inl, inr, arith}
+use Rattle.std.proofs.Common.{◌≡◌, ◌≢◌, ℕ, ◌+◌, ◌<◌, ◌≤◌, ◌⊎◌, Bool, true, false, not, ◌&&◌, ◌||◌, eqb, All, filter, List, [], ◌∷◌, ◌++◌, length, get_or, set, drop, replicate, refl, sym, ap, ◌∙◌, subst, inl, inr, arith}
 use Rattle.std.specs.List.{list_any, flat_map}
 use Rattle.std.proofs.lemmas.Bool.{cases_lt, cases_eq, eq-eqb, ne_eqb, cond-true, cond-false, false≢true}
 use Rattle.std.proofs.lemmas.List.{flat_map_more, set-set, at_drop_more, get_or-set_same, get_or-set_other, length-set, length-replicate, ext_get_or}
 use Rattle.std.proofs.lemmas.List.Folds.{list_any-append}
 use Rattle.rl_lanes.specs.Rows.{list_or, list_and_not, Meets, NoneFrom, IsLeastFrom}
+use Rattle.rl_lanes.specs.Tables.{image as rows_image}
+use Rattle.rl_lanes.proofs.ImageLemmas.{get_or-image}
 use Rattle.rl_lanes.proofs.RowLemmas.{place_within, get_or-replicate_false, length-list_or, get_or-list_or, length-list_and_not, get_or-list_and_not}
 use Rattle.rl_prio.specs.Automaton.{Automaton, dead_state, moves_at}
 use Rattle.rl_sets.specs.Live.{below, holds, set_where, image, joined, left_out}
@@ -232,6 +234,19 @@ unfolding members_of
 meets-members row states r says =
     let p = λ (q : ℕ). get_or row q false in
     let f = λ (q : ℕ). get_or states q false in
+    same_tests _ _ (λ e.
+    let h = says.0 e in
+    any-from f p (length row) h.0 (place_within row h.0 h.1) h.1 h.2) (λ e.
+    let h = any-there f p (length row) e in
+    says.1 (h.0, h.2, h.3))
+
+-- The union of the rows of the members has a bit set if the row of some member has.
+pub image-members : (row : List Bool) (table : List (List Bool)) (len k : ℕ) → All (λ r. length r ≡ len) table → get_or (rows_image table row len) k false ≡ list_any (λ q. get_or (get_or table q []) k false) (members_of row)
+unfolding members_of
+image-members row table len k wide =
+    let p = λ (q : ℕ). get_or row q false in
+    let f = λ (q : ℕ). get_or (get_or table q []) k false in
+    let says = get_or-image table row len k wide in
     same_tests _ _ (λ e.
     let h = says.0 e in
     any-from f p (length row) h.0 (place_within row h.0 h.1) h.1 h.2) (λ e.

@@ -5,7 +5,8 @@
 //! returns the number of the image of a set on a letter, and [`SetWalk::join`] returns the number of a set with one more
 //! member. [`SetWalk::refused_rest`] searches breadth first for a rest of a text that no member of a set accepts; a set for
 //! which there is such a rest is live. A rest is a list of letters followed by the end letter. Sets are stored as rows of
-//! bits, and images are computed once and kept.
+//! bits, and images are computed once and kept. [`SetWalk::union_of_rows`] joins the rows that a table has for the members of a
+//! set. [`SetWalk::shorten`] forgets the sets that were found last, which makes room for others.
 //!
 //! # What is proved
 //!

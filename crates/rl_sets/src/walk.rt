@@ -1,9 +1,9 @@
-//! Walks over sets of states: growing lists of different sets. The number of a set is its index in the list, from 0. The image
-//! of a set on a letter is the set of the states to which its members move on it, without the dead state, which has no moves.
-//! The end letter, which ends each text, has the number after the last letter. A row has one bit for each state of the
-//! automaton.
+//! Walks over sets of states: lists of different sets that grow as sets are asked for. The number of a set is its index in the
+//! list, from 0. The image of a set on a letter is the set of the states to which its members move on it, without the dead
+//! state, which has no moves. The end letter, which ends each text, has the number after the last letter. A row has one bit for
+//! each state of the automaton.
 
-ghost use Rattle.std.specs.Prelude.{◌≡◌, ◌≢◌, ℕ, ◌<◌, ◌≤◌, [], ◌∷◌, length, All, slice_index_or, IfOk, IfErr, OnErr, false};
+ghost use Rattle.std.specs.Prelude.{◌≡◌, ◌≢◌, ℕ, ◌<◌, ◌≤◌, [], ◌∷◌, length, take, All, slice_index_or, IfOk, IfErr, OnErr, false};
 ghost use Rattle.std.specs.List.{list_any};
 ghost use Rattle.rl_prio.specs.Automaton.{Automaton, letters_count, dead_state};
 ghost use Rattle.rl_sets.specs.declared.error.SetsError.TheVariants.{Sets};
@@ -20,8 +20,9 @@ use crate::life::{Life, Route};
 use crate::rests::RestSearch;
 use crate::rows::{mark, members};
 use crate::split::{SetMoves, SplitMoves};
+use crate::walk::images::shorten_images;
 use indexmap::IndexSet;
-use rl_lanes::BitRow;
+use rl_lanes::{BitRow, BitTable};
 use rl_lists::{Members, OutOfMemory};
 use rl_prio::Prio;
 use std::alloc::Global;
@@ -257,6 +258,38 @@ impl SetWalk {
         // Reading the number of states tells the prover that the length of a row fits in 32 bits.
         let _states = self.states;
         members(self.allocator(), &self.rows[set as usize])
+    }
+
+    /// Sets `into` to the union of the rows of `table` for the members of the set with the number `set`, without a list of the
+    /// members: a bit of `into` becomes set if it is set in the row of at least one member. The walk must have a set with this
+    /// number; the table must have one row for each state of the automaton, and `into` must be as long as its rows.
+    pub fn union_of_rows(&self, set: u32, table: &BitTable, into: &mut BitRow)
+        requires set_in { set < length self.now.sets }
+        requires high { length table.now ≡ self.now.kept.states }
+        requires wide { All (λ row. length row ≡ length into.old) table.now }
+        ensures union { (k : ℕ) → k < length into.old → slice_index_or into.new k false ≡ list_any (λ q. slice_index_or (slice_index_or table.now q []) k false) (set_at self.now set) }
+        ensures len { length into.new ≡ length into.old }
+    {
+        table.image(&self.rows[set as usize], into);
+    }
+
+    /// Keeps only the first `len` sets, and forgets the others and all that is known of them. Changes nothing if the walk has
+    /// no more than `len` sets. The walk must have been made for the automaton `a`.
+    pub fn shorten(&mut self, a: &Prio, len: u32)
+        requires made { IsMadeFor self.old a.now }
+        ensures sets { self.new.sets ≡ take len self.old.sets }
+        ensures made { IsMadeFor self.new a.now }
+        ensures limit { self.new.limit ≡ self.old.limit }
+    {
+        if len >= self.len() {
+            return;
+        }
+        self.rows.truncate(len as usize);
+        shorten_images(&mut self.images, a, len);
+        // Some of the sets looked at last may be forgotten now.
+        self.recent.clear();
+        // The routes stay, as sets that are kept may need them.
+        self.lives.truncate(len as usize);
     }
 
     /// Returns the allocator of the walk.

@@ -65,7 +65,7 @@ module _ (t : Tree) (n : ℕ) where
       All-append (λ q. q < state_count t n) (if all_hold gs before next then end_target t AtEnd n next ∷ [] else []) (moves_on t AtEnd n before next l)
       (one-below (all_hold gs before next) (end_target t AtEnd n next) (pass-below next)) (moves-below before next codes l known.1)
 
-  items-known : (q : ℕ) → ItemsKnown (guard_sets t) (places t) (items_of t n q)
+  pub items-known : (q : ℕ) → ItemsKnown (guard_sets t) (places t) (items_of t n q)
   items-known zero = first-known (guard_sets t) (places t) t 0 (omega arith) (Finer-itself (guard_sets t))
   items-known (suc r) =
       cond_both _ (after t 0 (r / length (kinds t n))) [] (ItemsKnown (guard_sets t) (places t))

@@ -7,7 +7,8 @@ use Rattle.rl_prio.specs.Automaton.{Automaton, letters_count, accepting_state, d
 use Rattle.rl_sets.specs.Live.{holds, image}
 use Rattle.rl_sets.specs.Walk.{IsSetOf}
 use Rattle.rl_sets.proofs.SetLemmas.{holds-filter}
-use Rattle.rl_trim.specs.internal.Trims.{state_ends, AreEnding, set_ends}
+use Rattle.rl_trim.specs.Endings.{state_ends, AreEnding}
+use Rattle.rl_trim.specs.internal.Trims.{set_ends}
 use Rattle.rl_trim.proofs.SetLaws.{members-states}
 
 -- ---- the members of a set

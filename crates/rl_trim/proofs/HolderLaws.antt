@@ -10,7 +10,7 @@ use Rattle.rl_sets.specs.Live.{holds}
 use Rattle.rl_sets.specs.Walk.{Walk, set_at, IsMadeFor}
 use Rattle.rl_trim.specs.declared.store.Reached.{Reached}
 use Rattle.rl_trim.specs.Reached.{IsNoted, AreHolders, AreReached, IsStored}
-use Rattle.rl_trim.specs.internal.Sunk.{is_kept}
+use Rattle.rl_trim.specs.Twins.{is_kept}
 use Rattle.rl_trim.specs.internal.Trims.{trimmed}
 use Rattle.rl_trim.specs.internal.Noting.{IsWide, IsNoting, AreTouched}
 use Rattle.rl_trim.specs.internal.Quick.{IsGrown, AreGone}

@@ -10,6 +10,7 @@ pub mod RowLaws
 pub mod EndLaws
 pub mod ClosingLaws
 pub mod HolderLaws
+pub mod ShortLaws
 pub mod PairLaws
 pub mod KeyOrder
 pub mod ChangeLaws
@@ -19,3 +20,4 @@ pub mod ApartLaws
 pub mod QuickLaws
 pub mod BesideLaws
 pub mod TwinLaws
+pub mod FurtherLaws

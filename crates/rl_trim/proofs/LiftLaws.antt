@@ -24,7 +24,8 @@ use Rattle.rl_equiv.specs.SetPairs.{joint_sets, image_over, differs, set_pairs}
 use Rattle.rl_equiv.specs.Bases.{DistinguishesNoMore, IsBase}
 use Rattle.rl_equiv.proofs.BaseLaws.{same-stands}
 use Rattle.rl_equiv.proofs.ImageLaws.{map-below, image-over}
-use Rattle.rl_trim.specs.internal.Sunk.{kept_before, is_kept, sunk, AreSunk}
+use Rattle.rl_trim.specs.Twins.{is_kept}
+use Rattle.rl_trim.specs.internal.Sunk.{kept_before, sunk, AreSunk}
 use Rattle.rl_trim.specs.internal.Trims.{trimmed, trim_on, trim_nexts, trim_differs}
 
 -- ---- lists
@@ -154,7 +155,7 @@ module _ (sets : List (ℕ → Bool)) (n : ℕ) (keep : List Bool) (s t : Tree) 
       ]
 
   -- The image without the states that aren't kept, numbered anew, is the image in the smaller tree.
-  image-sunk : (set : List ℕ) → list_all (is_kept keep) set ≡ true → (letter : ℕ)
+  pub image-sunk : (set : List ℕ) → list_all (is_kept keep) set ≡ true → (letter : ℕ)
       → map (sunk keep) (trimmed keep (image_over sets t n set letter)) ≡ image_over sets s n (map (sunk keep) set) letter
   unfolding image_over
   image-sunk set all letter =
@@ -163,7 +164,7 @@ module _ (sets : List (ℕ → Bool)) (n : ℕ) (keep : List Bool) (s t : Tree) 
       ∙ ap (λ m. filter p (below m)) states-sunk
 
   -- It has the accepting state where the image of the whole tree does.
-  ends-sunk : (set : List ℕ) → list_all (is_kept keep) set ≡ true → (letter : ℕ)
+  pub ends-sunk : (set : List ℕ) → list_all (is_kept keep) set ≡ true → (letter : ℕ)
       → holds (image_over sets t n set letter) (accepting t n) ≡ holds (image_over sets s n (map (sunk keep) set) letter) (accepting s n)
   unfolding image_over
   ends-sunk set all letter =

@@ -9,8 +9,9 @@ use Rattle.rl_prio.specs.Automaton.{Automaton}
 use Rattle.rl_sets.specs.Live.{holds, left_out}
 use Rattle.rl_sets.specs.Walk.{IsSetOf}
 use Rattle.rl_sets.proofs.LiveLemmas.{found_from}
-use Rattle.rl_trim.specs.internal.Sunk.{is_kept}
-use Rattle.rl_trim.specs.internal.Trims.{trimmed, state_ends, AreEnding}
+use Rattle.rl_trim.specs.Twins.{is_kept}
+use Rattle.rl_trim.specs.Endings.{state_ends, AreEnding}
+use Rattle.rl_trim.specs.internal.Trims.{trimmed}
 use Rattle.rl_trim.specs.internal.Quick.{AreGone}
 use Rattle.rl_trim.proofs.SetLaws.{holds-member, member-small, filter-all}
 

@@ -11,7 +11,7 @@ use Rattle.rl_prio.specs.Automaton.{Automaton, dead_state}
 use Rattle.rl_sets.specs.Live.{holds}
 use Rattle.rl_sets.specs.Walk.{Walk, set_at, IsSetOf, IsMadeFor, IsListed}
 use Rattle.rl_sets.proofs.SetLemmas.{holds-there}
-use Rattle.rl_trim.specs.internal.Sunk.{is_kept}
+use Rattle.rl_trim.specs.Twins.{is_kept}
 use Rattle.rl_trim.specs.internal.Trims.{trimmed}
 use Rattle.rl_trim.specs.internal.Quick.{IsGrown, IsNumbered}
 

@@ -23,7 +23,8 @@ use Rattle.rl_trim.specs.declared.judgement.Judgement.{Judgement}
 use Rattle.rl_trim.specs.declared.judgement.Judgement.TheVariants.{Equal, Apart, Passed}
 use Rattle.rl_trim.specs.Judged.{IsJudged, IsFound}
 use Rattle.rl_trim.specs.Without.{Without}
-use Rattle.rl_trim.specs.internal.Sunk.{is_kept, sunk, AreSunk}
+use Rattle.rl_trim.specs.Twins.{is_kept}
+use Rattle.rl_trim.specs.internal.Sunk.{sunk, AreSunk}
 use Rattle.rl_trim.specs.internal.Trims.{trim_on, trim_nexts, trim_differs, trim_pairs}
 use Rattle.rl_trim.proofs.WithoutMoves.{sunk_states, without_tells}
 use Rattle.rl_trim.proofs.LiftLaws.{trimmed-kept, sunk-next, sunk-rises, accepting-sunk, lifted, accepting-joint, nexts-lifted, differs-lifted}
@@ -76,7 +77,7 @@ all-below P zero each = All-nil P
 all-below P (suc n) each = All-push P (below n) n (all-below P n (λ l lt. each l (omega arith))) (each n (omega arith))
 
 -- Kept states that rise between two bounds do so by their new numbers too.
-sunk-rise : (keep : List Bool) (low high : ℕ) (xs : List ℕ) → list_all (is_kept keep) xs ≡ true → rises low high xs ≡ true → rises (sunk keep low) (sunk keep high) (map (sunk keep) xs) ≡ true
+pub sunk-rise : (keep : List Bool) (low high : ℕ) (xs : List ℕ) → list_all (is_kept keep) xs ≡ true → rises low high xs ≡ true → rises (sunk keep low) (sunk keep high) (map (sunk keep) xs) ≡ true
 sunk-rise keep low high [] k e = refl
 sunk-rise keep low high (x ∷ xs) k e =
     let p = and_parts (is_kept keep x) (list_all (is_kept keep) xs) k in

@@ -1,13 +1,16 @@
 -- Laws of branches that have an equal one beside them. Each set that the automaton reaches has, with each state, the one that
 -- stands in for it. So its image without the states that aren't kept is that of its kept states, and the pairs of a trial are
 -- those of the automaton and itself, each set paired with itself without those states.
-use Rattle.std.proofs.Common.{◌≡◌, ◌≢◌, ◌∙◌, ℕ, zero, suc, ◌+◌, ◌%◌, ◌^◌, ◌<◌, ◌≤◌, ◌⊎◌, inl, inr, List, [], ◌∷◌, length, get_or, take, map, filter, All, Bool, true, false, not, ◌&&◌, eqb, eqb-true, eq-eqb, refl, sym, ap, subst, arith}
-use Rattle.std.specs.List.{list_any}
+use Rattle.std.proofs.Common.{◌≡◌, ◌≢◌, ◌∙◌, ℕ, zero, suc, ◌+◌, ◌-◌, ◌%◌, ◌^◌, ◌<◌, ◌≤◌, ◌⊎◌, inl, inr, List, [], ◌∷◌, ◌++◌, length, get_or, take, map, filter, All, Some, Bool, true, false, not, ◌&&◌, cond, nat_lt, eqb, eqb-true, eq-eqb, refl, sym, ap, subst, arith}
+use Rattle.std.specs.List.{list_any, slice_get}
 use Rattle.std.proofs.Math.Bool.{beq}
-use Rattle.std.proofs.lemmas.Bool.{cases_Bool, cond-true, both_ways, ne_eqb, or_cases, and_parts, and_from, and_left, not_from_false}
+use Rattle.std.proofs.lemmas.Bool.{cases_Bool, cases_lt, cond-true, cond-false, lt-ltb, le-ltb, false≢true, both_ways, ne_eqb, or_cases, or_left, or_right, and_parts, and_from, and_left, not_from_false}
 use Rattle.std.proofs.lemmas.List.{take_all, get_or_default}
-use Rattle.std.proofs.lemmas.List.Elements.{All-head, All-tail, All-map}
+use Rattle.std.proofs.lemmas.List.Elements.{All-head, All-tail, All-map, All-more}
+use Rattle.std.proofs.lemmas.List.Folds.{list_any-append}
+use Rattle.std.proofs.lemmas.Option.{slice_get_cases, get_or_from_slice_get}
 use Rattle.rl_prio.specs.Automaton.{Automaton, IsAutomaton, letters_count, accepting_state, dead_state, moves_at}
+use Rattle.rl_prio.proofs.AutomatonLemmas.{moves_at-outside}
 use Rattle.rl_sets.specs.Live.{below, holds, image}
 use Rattle.rl_sets.proofs.LiveLemmas.{found_in, found_from}
 use Rattle.rl_sets.proofs.SetLemmas.{same_tests, filter_same, holds-there, holds-from}
@@ -19,10 +22,10 @@ use Rattle.rl_trim.specs.declared.judgement.Judgement.{Judgement}
 use Rattle.rl_trim.specs.declared.judgement.Judgement.TheVariants.{Equal, Apart, Passed}
 use Rattle.rl_trim.specs.Judged.{IsFound}
 use Rattle.rl_trim.specs.Known.{whole_on, whole_nexts, whole_pairs}
-use Rattle.rl_trim.specs.internal.Sunk.{is_kept}
+use Rattle.rl_trim.specs.Twins.{is_kept, StandsIn, AreTwins, HasTwin}
 use Rattle.rl_trim.specs.internal.Trims.{trimmed, trim_on, trim_nexts, set_ends, trim_pairs}
 use Rattle.rl_trim.specs.Targets.{HasTargets, AreTargets}
-use Rattle.rl_trim.specs.internal.Twins.{stand_in, Follows, StandsIn, AreTwins, HasTwin}
+use Rattle.rl_trim.specs.internal.Twins.{stand_in, FollowsAfter, StandsInAfter, IsReplaced, AreTwinsAfter}
 use Rattle.rl_trim.proofs.SetLaws.{holds-member, holds-trimmed, filter-both, filter-all}
 use Rattle.rl_trim.proofs.LiftLaws.{map-twice}
 use Rattle.rl_trim.proofs.OrderLaws.{order-length, none-same, any-same}
@@ -68,16 +71,16 @@ nothing-whole a =
 pub whole-found : (a : Automaton) (limit : ℕ) (j : Judgement) → IsFound (trim_pairs a []) limit j → IsFound (whole_pairs a) limit j
 whole-found a limit j h = subst (λ d. IsFound d limit j) (nothing-whole a) h
 
-whole-pairs-nexts : (a : Automaton) (p : SetPair) → (whole_pairs a).nexts p ≡ whole_nexts a p
+pub whole-pairs-nexts : (a : Automaton) (p : SetPair) → (whole_pairs a).nexts p ≡ whole_nexts a p
 unfolding whole_pairs
 whole-pairs-nexts a p = refl
 
 -- ---- sets that have, with each state, what stands in for it
 
 -- The set holds states of the automaton, each with what stands in for it.
-record IsDoubled (a : Automaton) (f : ℕ → ℕ) (set : List ℕ) : Type 0 where
-  small : (q : ℕ) → holds set q ≡ true → q < a.states
-  with_other : (q : ℕ) → holds set q ≡ true → holds set (f q) ≡ true
+pub record IsDoubled (a : Automaton) (f : ℕ → ℕ) (set : List ℕ) : Type 0 where
+  pub small : (q : ℕ) → holds set q ≡ true → q < a.states
+  pub with_other : (q : ℕ) → holds set q ≡ true → holds set (f q) ≡ true
 
 -- The pair is a set with itself, and each of its states has what stands in for it.
 record IsTwice (a : Automaton) (f : ℕ → ℕ) (p : SetPair) : Type 0 where
@@ -97,7 +100,7 @@ abbrev with_trimmed : List Bool → SetPair → SetPair
 with_trimmed keep p = record { first = p.first; second = trimmed keep p.first }
 
 module _ (a : Automaton) (keep : List Bool) (f : ℕ → ℕ) (whole : IsAutomaton a) (twins : AreTwins a keep f) where
-  start-doubled : IsDoubled a f (0 ∷ [])
+  pub start-doubled : IsDoubled a f (0 ∷ [])
   start-doubled = record { small = λ q h. omega (arith, zero-is q h, whole.three_states); with_other = λ q h. by q (zero-is q h) }
     where
       zero-is : (q : ℕ) → holds (0 ∷ []) q ≡ true → 0 ≡ q
@@ -115,7 +118,7 @@ module _ (a : Automaton) (keep : List Bool) (f : ℕ → ℕ) (whole : IsAutomat
       let x = found_in (λ q. holds (moves_at a q letter) t) set m in
       all-held (λ r. r < a.states) (moves_at a x.0 letter) t (whole.targets x.0 letter) x.2
 
-  image-doubled : (set : List ℕ) (letter : ℕ) → letter ≤ letters_count a → IsDoubled a f set → IsDoubled a f (image a set letter)
+  pub image-doubled : (set : List ℕ) (letter : ℕ) → letter ≤ letters_count a → IsDoubled a f set → IsDoubled a f (image a set letter)
   unfolding image
   image-doubled set letter le d = record { small = λ t h. (holds-there (reaches a set letter) a.states t h).0; with_other = other }
     where
@@ -148,7 +151,7 @@ module _ (a : Automaton) (keep : List Bool) (f : ℕ → ℕ) (whole : IsAutomat
           found_from (λ q. holds (moves_at a q letter) t) (trimmed keep set) (f x.0) held moved
 
   -- The image without the states that aren't kept is that of the kept states.
-  image-trimmed : (set : List ℕ) (letter : ℕ) → letter ≤ letters_count a → IsDoubled a f set → trimmed keep (image a (trimmed keep set) letter) ≡ trimmed keep (image a set letter)
+  pub image-trimmed : (set : List ℕ) (letter : ℕ) → letter ≤ letters_count a → IsDoubled a f set → trimmed keep (image a (trimmed keep set) letter) ≡ trimmed keep (image a set letter)
   unfolding image
   image-trimmed set letter le d =
       let kept = is_kept keep in
@@ -166,7 +169,7 @@ module _ (a : Automaton) (keep : List Bool) (f : ℕ → ℕ) (whole : IsAutomat
   kept-holds set = holds-trimmed (is_kept keep) set (accepting_state a) ∙ ap (λ b. b && holds set (accepting_state a)) twins.accepting
 
   -- The kept states of the set are led to the accepting state where the set is.
-  ends-trimmed : (set : List ℕ) → IsDoubled a f set → set_ends a (trimmed keep set) ≡ set_ends a set
+  pub ends-trimmed : (set : List ℕ) → IsDoubled a f set → set_ends a (trimmed keep set) ≡ set_ends a set
   ends-trimmed set d =
       let end = letters_count a in
       sym (kept-holds (image a (trimmed keep set) end))
@@ -226,15 +229,105 @@ module _ (a : Automaton) (keep : List Bool) (f : ℕ → ℕ) (whole : IsAutomat
 pub twin-found : (a : Automaton) (keep : List Bool) (limit : ℕ) (j : Judgement) → HasTwin a keep → IsFound (whole_pairs a) limit j → IsFound (trim_pairs a keep) limit j
 twin-found a keep limit j has = found-carried a keep has.stands_in has.whole has.are limit j
 
+-- ---- further branches
+
+-- Where nothing is left out, each state stands in for itself.
+pub twin-nothing : (a : Automaton) → IsAutomaton a → HasTwin a []
+twin-nothing a whole = record {
+  whole = whole;
+  stands_in = λ q. q;
+  are = record {
+    same = λ q k. refl;
+    accepting = all-kept (accepting_state a);
+    each = λ q lt. record { kept = all-kept q; alive = λ more. more; follows = λ letter le t h. h };
+  };
+}
+
+-- What stands in for a state that was kept before stands in for what it stood in for.
+module _ (a : Automaton) (before keep : List Bool) (f g : ℕ → ℕ) (whole : IsAutomaton a) (first : AreTwins a before f) (next : AreTwinsAfter a before keep g) where
+  -- Numbers that aren't states have no moves, and get the accepting state.
+  abbrev again : ℕ → ℕ
+  again q = cond (nat_lt (f q) a.states) (g (f q)) (accepting_state a)
+
+  abbrev replaced_twice : ℕ → ℕ
+  replaced_twice q = cond (is_kept keep q) q (again q)
+
+  again-is : (q : ℕ) → f q < a.states → again q ≡ g (f q)
+  again-is q small = cond-true (nat_lt (f q) a.states) (g (f q)) (accepting_state a) (lt-ltb (f q) a.states small)
+
+  kept-same : (q : ℕ) → q < a.states → is_kept keep q ≡ true → f q ≡ q
+  kept-same q lt k = first.same q ((next.each q lt).fewer k)
+
+  twice-is : (q : ℕ) → q < a.states → f q < a.states → replaced_twice q ≡ g (f q)
+  twice-is q lt small = by (is_kept keep q) refl
+    where
+      by : (b : Bool) → is_kept keep q ≡ b → cond b q (again q) ≡ g (f q)
+      by true k = sym (ap g (kept-same q lt k) ∙ next.same q k)
+      by false k = again-is q small
+
+  twice-past : (q : ℕ) → q < a.states → a.states ≤ f q → replaced_twice q ≡ accepting_state a
+  twice-past q lt past = by (is_kept keep q) refl
+    where
+      by : (b : Bool) → is_kept keep q ≡ b → cond b q (again q) ≡ accepting_state a
+      by true k = absurd (omega (arith, lt, past, kept-same q lt k))
+      by false k = cond-false (nat_lt (f q) a.states) (g (f q)) (accepting_state a) (le-ltb (f q) a.states past)
+
+  moved-small : (q letter t : ℕ) → holds (moves_at a q letter) t ≡ true → t < a.states
+  moved-small q letter t h = all-held (λ r. r < a.states) (moves_at a q letter) t (whole.targets q letter) h
+
+  mover-small : (q letter t : ℕ) → holds (moves_at a q letter) t ≡ true → q < a.states
+  mover-small q letter t h =
+      elim (cases_lt q a.states) [
+        | inl lt ↦ lt
+        | inr past ↦ absurd (false≢true (subst (λ (l : List ℕ). holds l t ≡ true) (moves_at-outside a q letter (inl past)) h))
+      ]
+
+  each-twice : (q : ℕ) → q < a.states → (f q < a.states) ⊎ (a.states ≤ f q) → StandsIn a keep replaced_twice q
+  each-twice q lt (inl small) =
+      let x = first.each q lt in
+      let y = (next.each (f q) small).stands x.kept in
+      let e = twice-is q lt small in
+      record {
+        kept = subst (λ n. is_kept keep n ≡ true) (sym e) y.kept;
+        alive = λ more d. y.alive (x.alive more) (sym e ∙ d);
+        follows = λ letter le t h.
+            let m = x.follows letter le t h in
+            let there = moved-small q letter t h in
+            let n = y.follows letter le (f t) (first.each t there).kept m in
+            subst (λ k. holds (moves_at a k letter) (replaced_twice t) ≡ true) (sym e)
+            (subst (λ k. holds (moves_at a (g (f q)) letter) k ≡ true) (sym (twice-is t there (moved-small (f q) letter (f t) m))) n);
+      }
+  each-twice q lt (inr past) =
+      let e = twice-past q lt past in
+      record {
+        kept = subst (λ n. is_kept keep n ≡ true) (sym e) next.accepting;
+        alive = λ more d. omega (arith, whole.three_states, sym e ∙ d);
+        follows = λ letter le t h. absurd (omega (arith, past, mover-small (f q) letter (f t) ((first.each q lt).follows letter le t h)));
+      }
+
+  twins-twice : AreTwins a keep replaced_twice
+  twins-twice = record {
+    same = λ q k. cond-true (is_kept keep q) q (again q) k;
+    accepting = next.accepting;
+    each = λ q lt. each-twice q lt (cases_lt (f q) a.states);
+  }
+
+pub twin-after : (a : Automaton) (before keep : List Bool) (g : ℕ → ℕ) → HasTwin a before → AreTwinsAfter a before keep g → HasTwin a keep
+twin-after a before keep g has next = record {
+  whole = has.whole;
+  stands_in = replaced_twice a before keep has.stands_in g has.whole has.are next;
+  are = twins-twice a before keep has.stands_in g has.whole has.are next;
+}
+
 -- ---- the targets of a state
 
 -- A state follows another one on a letter once all targets were looked at.
-pub follows-all : (a : Automaton) (f : ℕ → ℕ) (state other letter i : ℕ) (found targets : List ℕ) → found ≡ moves_at a other letter → targets ≡ moves_at a state letter → other ≡ f state → length targets ≤ i
-    → All (λ t. holds found (f t) ≡ true) (take i targets) → Follows a f state letter
-follows-all a f state other letter i found targets found_is targets_is o all each t h =
+pub follows-all : (a : Automaton) (before : List Bool) (f : ℕ → ℕ) (state other letter i : ℕ) (found targets : List ℕ) → found ≡ moves_at a other letter → targets ≡ moves_at a state letter → other ≡ f state
+    → length targets ≤ i → All (λ t. is_kept before t ≡ true → holds found (f t) ≡ true) (take i targets) → FollowsAfter a before f state letter
+follows-all a before f state other letter i found targets found_is targets_is o all each t k h =
     let here : holds found (f t) ≡ true =
-    all-held (λ (t : ℕ). holds found (f t) ≡ true) targets t (subst (All (λ t. holds found (f t) ≡ true)) (take_all i targets all) each)
-    (subst (λ (l : List ℕ). holds l t ≡ true) (sym targets_is) h) in
+    all-held (λ (t : ℕ). is_kept before t ≡ true → holds found (f t) ≡ true) targets t (subst (All (λ t. is_kept before t ≡ true → holds found (f t) ≡ true)) (take_all i targets all) each)
+    (subst (λ (l : List ℕ). holds l t ≡ true) (sym targets_is) h) k in
     subst (λ (l : List ℕ). holds l (f t) ≡ true) (found_is ∙ ap (λ q. moves_at a q letter) o) here
 
 -- A target of a kept state that is kept itself is there.
@@ -246,17 +339,66 @@ target-stays a state other letter i wanted found targets found_is targets_is sam
 
 -- ---- lists of targets
 
+-- The list has all targets on the letters before, and the first `i` of those on this letter.
+abbrev pub IsAppending : Automaton → ℕ → ℕ → List ℕ → ℕ → List ℕ → Type 0
+IsAppending a state letter targets i list = HasTargets a state letter list × All (λ t. holds list t ≡ true) (take i targets)
+
+held-still : (xs : List ℕ) (t q : ℕ) → holds xs q ≡ true → holds (xs ++ t ∷ []) q ≡ true
+held-still xs t q e = list_any-append (λ x. eqb x q) xs (t ∷ []) ∙ or_left (holds xs q) (holds (t ∷ []) q) e
+
+held-pushed : (xs : List ℕ) (t : ℕ) → holds (xs ++ t ∷ []) t ≡ true
+held-pushed xs t = list_any-append (λ x. eqb x t) xs (t ∷ []) ∙ or_right (holds xs t) (holds (t ∷ []) t) (or_left (eqb t t) false (eq-eqb t t refl))
+
+held-got : (xs : List ℕ) (i t : ℕ) → slice_get xs i ≡ Some t → holds xs t ≡ true
+held-got xs i t e =
+    elim (slice_get_cases xs i).1 [
+      | inl h ↦ subst (λ q. holds xs q ≡ true) (get_or_from_slice_get xs i t 0 e) (holds-member xs i 0 h.1)
+      | inr h ↦ absurd (cc (sym h.1 ∙ e))
+    ]
+
+-- The list has one target more once it is appended.
+pub appending-more : (a : Automaton) (state letter : ℕ) (targets : List ℕ) (i : ℕ) (list longer : List ℕ) → longer ≡ list ++ get_or targets i 0 ∷ [] → i < length targets
+    → IsAppending a state letter targets i list → IsAppending a state letter targets (i + 1) longer
+appending-more a state letter targets i list longer e lt has =
+    let t = get_or targets i 0 in
+    subst (IsAppending a state letter targets (i + 1)) (sym e)
+    ((λ l q low h. held-still list t q (has.0 l q low h)), All-more (λ q. holds (list ++ t ∷ []) q ≡ true) targets i 0 lt (λ k d low. held-still list t _ (has.1 k d low)) (held-pushed list t))
+
+-- It has it already if it is the list's last one.
+pub appending-same : (a : Automaton) (state letter : ℕ) (targets : List ℕ) (i : ℕ) (list : List ℕ) → i < length targets → slice_get list (length list - 1) ≡ Some (get_or targets i 0)
+    → IsAppending a state letter targets i list → IsAppending a state letter targets (i + 1) list
+appending-same a state letter targets i list lt last has = (has.0, All-more (λ q. holds list q ≡ true) targets i 0 lt has.1 (held-got list (length list - 1) (get_or targets i 0) last))
+
+-- Once it has all targets on this letter, it has those on all letters up to this one.
+pub appending-done : (a : Automaton) (state letter : ℕ) (targets : List ℕ) (i : ℕ) (list : List ℕ) → targets ≡ moves_at a state letter → length targets ≤ i
+    → IsAppending a state letter targets i list → HasTargets a state (letter + 1) list
+appending-done a state letter targets i list is all has l t low h =
+    elim (cases_lt l letter) [
+      | inl less ↦ has.0 l t less h
+      | inr ge ↦
+          let e : l ≡ letter = omega arith in
+          all-held (λ q. holds list q ≡ true) targets t (subst (All (λ q. holds list q ≡ true)) (take_all i targets all) has.1)
+          (subst (λ (m : List ℕ). holds m t ≡ true) (ap (moves_at a state) e ∙ sym is) h)
+    ]
+
 stand-same : (keep : List Bool) (distance q : ℕ) → is_kept keep q ≡ true → stand_in keep distance q ≡ q
 stand-same keep distance q e = cond-true (is_kept keep q) q ((q + distance) % 2 ^ 32) e
 
--- A kept state with kept targets only stands in for itself.
-pub stays-in : (a : Automaton) (keep : List Bool) (distance q : ℕ) (list : List ℕ) → is_kept keep q ≡ true → HasTargets a q (suc (letters_count a)) list → All (λ t. is_kept keep t ≡ true) list
-    → StandsIn a keep (stand_in keep distance) q
-stays-in a keep distance q list kept has each = record {
+still-kept : (b k : Bool) → b ≡ true → (b && not k) ≡ false → k ≡ true
+still-kept true true e h = refl
+still-kept true false e h = absurd (cc h)
+still-kept false k e h = absurd (cc e)
+
+-- A kept state with no target to be replaced stands in for itself.
+pub stays-in : (a : Automaton) (before keep : List Bool) (distance q : ℕ) (list : List ℕ) → is_kept keep q ≡ true → HasTargets a q (suc (letters_count a)) list
+    → All (λ t. (is_kept before t && not (is_kept keep t)) ≡ false) list → StandsInAfter a before keep (stand_in keep distance) q
+stays-in a before keep distance q list kept has each = record {
   kept = subst (λ r. is_kept keep r ≡ true) (sym here) kept;
   alive = λ more e. more (sym here ∙ e);
-  follows = λ letter le t h.
-      let there : stand_in keep distance t ≡ t = stand-same keep distance t (all-held (λ t. is_kept keep t ≡ true) list t each (has letter t (omega arith) h)) in
+  follows = λ letter le t k h.
+      let stays : is_kept keep t ≡ true =
+      still-kept (is_kept before t) (is_kept keep t) k (all-held (λ t. (is_kept before t && not (is_kept keep t)) ≡ false) list t each (has letter t (omega arith) h)) in
+      let there : stand_in keep distance t ≡ t = stand-same keep distance t stays in
       subst (λ r. holds (moves_at a r letter) (stand_in keep distance t) ≡ true) (sym here) (subst (λ r. holds (moves_at a q letter) r ≡ true) (sym there) h);
 }
   where
@@ -264,9 +406,25 @@ stays-in a keep distance q list kept has each = record {
     here = stand-same keep distance q kept
 
 -- The same with its list among those of all states.
-pub listed-stays : (a : Automaton) (keep : List Bool) (distance q : ℕ) (lists : List (List ℕ)) (list : List ℕ) → is_kept keep q ≡ true → q < a.states → AreTargets a a.states lists → list ≡ get_or lists q list
-    → All (λ t. is_kept keep t ≡ true) list → StandsIn a keep (stand_in keep distance) q
-listed-stays a keep distance q lists list kept lt are e each =
+pub listed-stays : (a : Automaton) (before keep : List Bool) (distance q : ℕ) (lists : List (List ℕ)) (list : List ℕ) → is_kept keep q ≡ true → q < a.states → AreTargets a a.states lists
+    → list ≡ get_or lists q list → All (λ t. (is_kept before t && not (is_kept keep t)) ≡ false) list → StandsInAfter a before keep (stand_in keep distance) q
+listed-stays a before keep distance q lists list kept lt are e each =
     let long : q < length lists = omega (arith, lt, are.0) in
     let here : get_or lists q [] ≡ list = get_or_default lists q [] list long ∙ sym e in
-    stays-in a keep distance q list kept (subst (HasTargets a q (suc (letters_count a))) here (are.1 q lt)) each
+    stays-in a before keep distance q list kept (subst (HasTargets a q (suc (letters_count a))) here (are.1 q lt)) each
+
+-- ---- all states
+
+-- Where the states from `first` on are replaced, and those before, all are.
+pub all-after : (a : Automaton) (before keep : List Bool) (distance first states : ℕ) → states ≡ a.states → is_kept keep (accepting_state a) ≡ true
+    → ((q : ℕ) → first ≤ q → q < states → IsReplaced a before keep (stand_in keep distance) q) → ((q : ℕ) → 0 ≤ q → q < first → IsReplaced a before keep (stand_in keep distance) q)
+    → AreTwinsAfter a before keep (stand_in keep distance)
+all-after a before keep distance first states count accepting late early = record {
+  same = λ q k. stand-same keep distance q k;
+  accepting = accepting;
+  each = λ q lt. by q lt (cases_lt q first);
+}
+  where
+    by : (q : ℕ) → q < a.states → (q < first) ⊎ (first ≤ q) → IsReplaced a before keep (stand_in keep distance) q
+    by q lt (inl less) = early q (omega arith) less
+    by q lt (inr ge) = late q ge (omega (arith, lt, count))

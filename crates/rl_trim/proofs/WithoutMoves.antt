@@ -19,7 +19,8 @@ use Rattle.rl_prio.proofs.KindLemmas.{one_kind}
 use Rattle.rl_sets.specs.Live.{holds}
 use Rattle.rl_equiv.specs.Bases.{DistinguishesNoMore}
 use Rattle.rl_trim.specs.Without.{Without, whole, in_both, in_either, in_many, first_goes, second_goes}
-use Rattle.rl_trim.specs.internal.Sunk.{kept_before, is_kept, sunk, AreSunk}
+use Rattle.rl_trim.specs.Twins.{is_kept}
+use Rattle.rl_trim.specs.internal.Sunk.{kept_before, sunk, AreSunk}
 use Rattle.rl_trim.proofs.WithoutItems.{has_test, has_pass, and-false, absorbs_and, Ranges, wider, no_tests, ranges_first, ranges_after, count, At, here, stays, goes, inside, Same, Trim, trim_of, flags_are_places, kept_are_places, same_first, same_after, same_sets}
 
 -- ---- guards and sets

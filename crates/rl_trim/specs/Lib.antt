@@ -3,4 +3,7 @@ pub mod Reached
 pub mod internal
 pub mod Judged
 pub mod Targets
+pub mod Endings
+pub mod Changes
+pub mod Twins
 pub mod Known

@@ -3,12 +3,13 @@
 //! A branch is given by its places: the places of the tree that aren't kept. The place `p` has the state `p + 1` in the
 //! automaton of the whole tree; states that belong to no place are kept.
 
-ghost use Rattle.std.specs.Prelude.{◌≡◌, ℕ, ◌<◌, ◌≤◌, ◌⊎◌, [], length, slice_index_or, None, Some, IfOk, OnOk};
+ghost use Rattle.std.specs.Prelude.{◌≡◌, ℕ, ◌<◌, ◌≤◌, ◌⊎◌, [], length, slice_index_or, None, Some, IfOk, OnOk, IfSome};
 ghost use Rattle.rl_prio.specs.Automaton.{letters_count};
 ghost use Rattle.rl_sets.specs.Live.{image};
 ghost use Rattle.rl_sets.specs.Walk.{set_at, IsMadeFor};
-ghost use Rattle.rl_trim.specs.internal.Sunk.{is_kept as is_kept_in};
-ghost use Rattle.rl_trim.specs.internal.Trims.{trimmed, trim_on, state_ends as state_ends_in, AreEnding, set_ends, trim_differs};
+ghost use Rattle.rl_trim.specs.Twins.{is_kept as is_kept_in};
+ghost use Rattle.rl_trim.specs.Endings.{state_ends as state_ends_in, AreEnding};
+ghost use Rattle.rl_trim.specs.internal.Trims.{trimmed, trim_on, set_ends, trim_differs};
 ghost use Rattle.rl_trim.specs.internal.Quick.{IsNumbered, IsInside, IsKeyOf, AreGone, AreTrims, pair_of};
 
 use crate::key::Key;
@@ -30,9 +31,9 @@ pub(crate) struct Branch<'a> {
     /// A bit for each state, which is set if the state isn't kept.
     pub gone: BitRow,
     /// A bit for each state, which is set if the state moves to the accepting state on the end letter.
-    ending: BitRow,
+    pub ending: &'a BitRow,
     ghost are_gone: { AreGone keep.now automaton.now.states gone },
-    ghost are_ending: { AreEnding automaton.now automaton.now.states ending },
+    ghost are_ending: { AreEnding automaton.now automaton.now.states ending.now },
 }
 
 /// The numbers, in a walk, that a trial of a branch has found so far for sets without the states of the branch.
@@ -98,6 +99,22 @@ fn ending_of(alloc: Global, a: &Prio) -> Result<BitRow, OutOfMemory>
     Ok(ending)
 }
 
+/// Returns the row `found` earlier, if it is given; otherwise makes the row with a bit for each state of the automaton `a`,
+/// which is set if the state moves to the accepting state on the end letter.
+pub(crate) fn ending_or(
+    alloc: Global,
+    a: &Prio,
+    found: Option<BitRow>,
+) -> Result<BitRow, OutOfMemory>
+    requires { IfSome found (AreEnding a.now a.now.states) }
+    ensures { IfOk result (AreEnding a.now a.now.states) }
+{
+    match found {
+        Some(ending) => Ok(ending),
+        None => ending_of(alloc, a),
+    }
+}
+
 /// Returns the number of the image of a set on a letter or the end letter. The image is appended to the walk if it is new.
 pub(crate) fn step(walk: &mut SetWalk, a: &Prio, set: u32, letter: u32) -> Result<u32, SetsError>
     requires made { IsMadeFor walk.old a.now }
@@ -144,20 +161,19 @@ impl Trims {
 
 impl<'a> Branch<'a> {
     /// Returns the branch that consists of the places whose flag in `keep` is false. There is one flag for each place of the
-    /// tree, from left to right; places without a flag are kept.
+    /// tree, from left to right; places without a flag are kept. The row `ending` must have a bit for each state, which is set
+    /// if the state moves to the accepting state on the end letter.
     pub(crate) fn new(
         alloc: Global,
         automaton: &'a Prio,
+        ending: &'a BitRow,
         keep: &'a [bool],
     ) -> Result<Branch<'a>, OutOfMemory>
+        requires { AreEnding automaton.now automaton.now.states ending.now }
         ensures automaton { IfOk result (λ b. b.automaton.now ≡ automaton.now) }
         ensures keep { IfOk result (λ b. b.keep.now ≡ keep.now) }
     {
-        let ending = ending_of(alloc, automaton)?;
-        let Ok(gone) = gone_of(alloc, keep, automaton.states()) else {
-            drop(ending);
-            return Err(OutOfMemory);
-        };
+        let gone = gone_of(alloc, keep, automaton.states())?;
         Ok(Branch {
             alloc,
             automaton,
@@ -239,7 +255,7 @@ impl<'a> Branch<'a> {
     {
         // Reading the number of states tells the prover that the automaton is well formed.
         let _states = self.automaton.states();
-        walk.meets(set, &self.ending)
+        walk.meets(set, self.ending)
     }
 
     /// Returns whether a pair shows a difference: the end letter leads exactly one of its two sets to the accepting state.

@@ -1,13 +1,14 @@
 //! Finds the changes of states: the letters on which a state has other moves than on the letter before. The first letter,
 //! which has none before it, and the end letter are no changes.
 
-ghost use Rattle.std.specs.Prelude.{◌≡◌, ◌<◌, false, length, slice_index_or, IfOk, OnOk};
+ghost use Rattle.std.specs.Prelude.{◌≡◌, ◌<◌, suc, false, length, slice_index_or, IfOk};
 ghost use Rattle.rl_sets.specs.Walk.{set_at, IsMadeFor};
-ghost use Rattle.rl_trim.specs.internal.Changing.{IsWide, IsSame, IsSameOn, AreChanges, AreChangesIf, StaysMarked};
+ghost use Rattle.rl_trim.specs.Changes.{IsWide, AreRows, AreChanges, AreChangesIf};
+ghost use Rattle.rl_trim.specs.internal.Changing.{IsSameOn};
 ghost use Rattle.rl_trim.specs.internal.Quick.{IsInside};
 
 use crate::key::Key;
-use rl_lanes::BitRow;
+use rl_lanes::{BitRow, BitTable};
 use rl_lists::OutOfMemory;
 use rl_prio::Prio;
 use rl_sets::SetWalk;
@@ -18,34 +19,32 @@ use std::alloc::Global;
 pub(crate) struct Changes {
     /// A row for each state, in the order of the states. It has a bit for each letter, without the end letter, which is set if
     /// the letter is a change of the state.
-    pub rows: Vec<BitRow>,
+    pub rows: BitTable,
 }
 
-/// Returns the row of the changes of a state: the letters on which it has other moves than on the letter before.
-fn changes_of(alloc: Global, a: &Prio, state: u32) -> Result<BitRow, OutOfMemory>
-    requires { state < a.now.states }
-    ensures wide { IfOk result (IsWide a.now) }
-    ensures same { IfOk result (λ row. IsSame a.now row state) }
+/// Sets in the row of a state the bits of its changes: the letters on which it has other moves than on the letter before.
+fn mark_changes(rows: &mut BitTable, a: &Prio, state: u32)
+    requires state_in { state < a.now.states }
+    requires rows { AreRows a.now state rows.old }
+    ensures { AreRows a.now (suc state) rows.new }
 {
-    let letters = a.letters().count();
-    let mut row = BitRow::zeros(alloc, letters as usize)?;
-    for letter in 1..letters {
+    for letter in 1..a.letters().count() {
         if a.moves(state, letter - 1) != a.moves(state, letter) {
-            row.set(letter as usize, true);
+            rows.set(state as usize, letter as usize, true);
         }
     }
-    Ok(row)
 }
 
 /// Returns the changes of all states of an automaton.
 fn all_changes(alloc: Global, a: &Prio) -> Result<Changes, OutOfMemory>
     ensures { IfOk result (AreChanges a.now) }
 {
-    let mut rows = Vec::new(alloc);
+    let mut rows = BitTable::zeros(alloc, a.states() as usize, a.letters().count() as usize)?;
     for state in 0..a.states() {
-        let row = changes_of(alloc, a, state)?;
-        rows.push(row)?;
+        mark_changes(&mut rows, a, state);
     }
+    // This only makes the unions of rows faster.
+    rows.find_runs()?;
     Ok(Changes { rows })
 }
 
@@ -64,28 +63,23 @@ pub(crate) fn changes_or(
     }
 }
 
-/// Sets in the row the bits of the letters that are changes of some member of the set with the number `set`. Other bits stay
-/// as they are.
-fn add_changes(
-    row: &mut BitRow,
+/// Returns the row of the letters that are changes of some member of the set with the number `set`.
+fn changes_in(
+    alloc: Global,
     changes: &Changes,
     a: &Prio,
     walk: &SetWalk,
     set: u32,
-) -> Result<(), OutOfMemory>
+) -> Result<BitRow, OutOfMemory>
     requires made { IsMadeFor walk.now a.now }
     requires set_in { set < length walk.now.sets }
     requires changes { AreChanges a.now changes.now }
-    requires wide { IsWide a.now row.old }
-    ensures wide { OnOk result (IsWide a.now row.new) }
-    ensures marked { OnOk result (StaysMarked row.old row.new) }
-    ensures same { OnOk result (IsSameOn a.now row.new (set_at walk.now set)) }
+    ensures wide { IfOk result (IsWide a.now) }
+    ensures same { IfOk result (λ row. IsSameOn a.now row (set_at walk.now set)) }
 {
-    let members = walk.members(set)?;
-    for state in members.as_slice() {
-        row.or_into(&changes.rows[*state as usize]);
-    }
-    Ok(())
+    let mut row = BitRow::zeros(alloc, a.letters().count() as usize)?;
+    walk.union_of_rows(set, &changes.rows, &mut row);
+    Ok(row)
 }
 
 /// Returns the row of the letters that are changes of some member of the first or the second set of a pair.
@@ -103,12 +97,12 @@ pub(crate) fn changes_on(
     ensures first { IfOk result (λ row. IsSameOn a.now row (set_at walk.now key.first)) }
     ensures second { IfOk result (λ row. IsSameOn a.now row (set_at walk.now key.second)) }
 {
-    let mut row = BitRow::zeros(alloc, a.letters().count() as usize)?;
-    add_changes(&mut row, changes, a, walk, key.first)?;
+    let mut row = changes_in(alloc, changes, a, walk, key.first)?;
     if key.second == key.first {
         return Ok(row);
     }
-    add_changes(&mut row, changes, a, walk, key.second)?;
+    let other = changes_in(alloc, changes, a, walk, key.second)?;
+    row.or_into(&other);
     Ok(row)
 }
 

@@ -12,7 +12,7 @@ ghost use Rattle.rl_trim.specs.Judged.{IsFound};
 ghost use Rattle.rl_trim.specs.internal.Trims.{trim_on, trim_nexts, trim_differs, trim_pairs};
 ghost use Rattle.rl_trim.specs.internal.Quick.{IsGrown, IsInside, no_key, pair_of, pair_at};
 ghost use Rattle.rl_trim.specs.declared.store.TheConstants.{MOST_SETS};
-ghost use Rattle.rl_trim.specs.internal.Changing.{AreChanges, AreChangesIf};
+ghost use Rattle.rl_trim.specs.Changes.{AreChanges, AreChangesIf};
 ghost use Rattle.rl_trim.specs.internal.Orders.{with_key, pairs_in, AreKeys, AreArrived};
 
 use crate::branch::{Branch, Trims, step};
@@ -260,20 +260,23 @@ impl Order {
     /// Carries out the trial: looks at the first `limit` pairs one after another, and appends the next pairs of each. Returns
     /// `Apart` as soon as one of them shows a difference, `Equal` if there are no more than `limit` pairs and none does, and
     /// `Passed` otherwise. Once more than `limit` pairs are found, no further ones are searched for. The search must have
-    /// found only the first pair yet.
+    /// found only the first pair yet. The changes of the states are found and kept in `changes` if they are needed and aren't
+    /// there yet.
     pub(crate) fn judge(
         &mut self,
         branch: &Branch,
         walk: &mut SetWalk,
+        changes: &mut Option<Changes>,
         limit: usize,
     ) -> Result<Judgement, SetsError>
+        requires changes { AreChangesIf branch.now.automaton.now changes.old }
         requires keys { AreKeys branch.now.automaton.now walk.old self.old.keys.keys }
         requires arrived { AreArrived branch.now.keep.now walk.old self.old.keys.keys self.old.arrived }
         requires one { pairs_in walk.old self.old.keys.keys ≡ first_pair ∷ [] }
         ensures found { IfOk result (IsFound (trim_pairs branch.now.automaton.now branch.now.keep.now) limit) }
         ensures grown { OnOk result (IsGrown branch.now.automaton.now walk.old walk.new) }
+        ensures changes { OnOk result (AreChangesIf branch.now.automaton.now changes.new) }
     {
-        let mut changes = None;
         for place in 0..limit {
             if place == self.keys.len() {
                 return Ok(Judgement::Equal);
@@ -282,7 +285,7 @@ impl Order {
                 return Ok(Judgement::Apart);
             }
             if self.keys.len() <= limit {
-                self.expand(branch, walk, &mut changes, place)?;
+                self.expand(branch, walk, changes, place)?;
             }
         }
         if self.keys.len() > limit {

@@ -4,18 +4,21 @@
 //! without the end letter. A trial in order looks at pairs of sets breadth first; a quick trial looks at them in any order and
 //! needs the sets reached from the start.
 
-ghost use Rattle.std.specs.Prelude.{◌≡◌, ◌+◌, ◌<◌, None, length, IfOk, OnOk};
+ghost use Rattle.std.specs.Prelude.{◌≡◌, ◌+◌, ◌<◌, ◌≤◌, true, None, Some, length, IfOk, OnOk, IfSome};
+ghost use Rattle.std.specs.Option.{option_map};
 ghost use Rattle.rl_prio.specs.Automaton.{letters_count};
 ghost use Rattle.rl_sets.specs.Walk.{IsMadeFor};
 ghost use Rattle.rl_trim.specs.Reached.{HasImage, IsClosedTo, IsStored, IsStore};
 ghost use Rattle.rl_trim.specs.Known.{IsKnown};
+ghost use Rattle.rl_trim.specs.declared.judgement.Judgement.TheVariants.{Equal};
 ghost use Rattle.rl_trim.specs.internal.Quick.{IsGrown};
 
+use crate::changes::Changes;
 use crate::holders::holders_of;
 use crate::judgement::Judgement;
 use crate::key::Way;
 use crate::twins::Targets;
-use rl_lanes::BitTable;
+use rl_lanes::{BitRow, BitTable};
 use rl_prio::Prio;
 use rl_sets::{SetWalk, SetsError};
 use std::alloc::Global;
@@ -27,9 +30,13 @@ pub(crate) const MOST_SETS: u32 = 60_000;
 /// it then. It isn't begun if the walk already has more sets.
 pub(crate) const MOST_REACHED: u32 = 10_000;
 
-/// The most sets that a walk may have before a trial if the sets reached from the start aren't known. A walk with more is
-/// begun anew, as the trial could run out of room and would have to be repeated.
-const MOST_SHARED: u32 = 30_000;
+/// The most sets that a walk may have before a trial. A walk with more is shortened: a trial may add up to some 18,000 sets,
+/// so it could run out of room and would have to be repeated.
+const MOST_SHARED: u32 = 42_000;
+
+/// How many sets a walk keeps when it is shortened. The sets found first are kept, as they serve most trials. The number is
+/// lower than `MOST_SHARED`, so that the walk needn't be shortened before every trial.
+const MOST_KEPT: u32 = 40_000;
 
 /// How many pairs trials in order may find before the sets reached from the start are searched for again.
 const MOST_LOOKED: usize = 200_000;
@@ -59,8 +66,15 @@ pub(crate) struct Whole {
 pub(crate) struct Known {
     /// The targets of the automaton's states, if a trial needed them.
     pub targets: Option<Targets>,
+    /// A bit for each state, which is set if the state moves to the accepting state on the end letter, if a trial needed it.
+    pub ending: Option<BitRow>,
+    /// The changes of the states, if a trial needed them.
+    pub changes: Option<Changes>,
     /// The result of the last trial that leaves nothing out, if there was one.
     pub whole: Option<Whole>,
+    /// For each place, whether it is kept, without the branches that were last found to have equal branches beside them.
+    /// `None` if no such branches were found.
+    pub twinned: Option<Vec<bool>>,
 }
 
 /// What trials on an automaton have found so far.
@@ -166,11 +180,44 @@ impl Known {
     /// Returns the value for an automaton of which nothing is known yet.
     pub(crate) fn nothing() -> Known
         ensures targets { result.targets ≡ None }
+        ensures ending { result.ending ≡ None }
+        ensures changes { result.changes ≡ None }
         ensures whole { result.whole ≡ None }
+        ensures twinned { result.twinned ≡ None }
     {
         Known {
             targets: None,
+            ending: None,
+            changes: None,
             whole: None,
+            twinned: None,
+        }
+    }
+
+    /// Returns whether the result of the last trial that leaves nothing out is for this limit and is that the languages are
+    /// equal.
+    pub(crate) fn is_equal(&self, limit: u32) -> bool
+        ensures { result ≡ true → self.now.whole ≡ Some (record { limit = limit; found = Equal }) }
+    {
+        match self.whole {
+            Some(
+                Whole {
+                    limit: most,
+                    found: Judgement::Equal,
+                },
+            ) => most == limit,
+            _ => false,
+        }
+    }
+
+    /// Returns whether the branches that were last found to have equal branches beside them are those without which `dropped`
+    /// has the places that are kept.
+    pub(crate) fn is_twinned(&self, dropped: &[bool]) -> bool
+        ensures { result ≡ true → option_map (λ flags. flags.items) self.now.twinned ≡ Some dropped.now }
+    {
+        match &self.twinned {
+            Some(flags) => flags.as_slice() == dropped,
+            None => false,
         }
     }
 }
@@ -202,10 +249,36 @@ impl Store {
         Store::closed(alloc, a, a.states(), MOST_LOOKED, Known::nothing())
     }
 
-    /// Returns the store with which the next trial begins: usually this store. If its walk has little room left for a trial in
-    /// order (see `MOST_SHARED`), it is a store with only the set of the start. If trials in order have found `MOST_LOOKED`
-    /// pairs or more since the store was made and the walk has at most `MOST_REACHED` sets, the sets reached from the start
-    /// are searched for again, and `patience` is then practically unlimited. What else is known of the automaton is kept.
+    /// Returns how many sets the walk keeps when it is shortened: `MOST_KEPT`, or all sets reached from the start if they are
+    /// known and there are more of them.
+    fn most_kept(&self) -> u32
+        ensures some { 0 < result }
+        ensures reached { IfSome self.now.reached (λ r. r.count ≤ result) }
+    {
+        match &self.reached {
+            Some(reached) => reached.count.max(MOST_KEPT),
+            None => MOST_KEPT,
+        }
+    }
+
+    /// Forgets the sets that were found last if the walk has little room left for a trial (see `MOST_SHARED`). The sets
+    /// reached from the start stay if they are known.
+    fn make_room(&mut self, a: &Prio)
+        requires { IsStore a.now self.old }
+        ensures { IsStore a.now self.new }
+    {
+        if self.walk.len() <= MOST_SHARED {
+            return;
+        }
+        let kept = self.most_kept();
+        self.walk.shorten(a, kept);
+    }
+
+    /// Returns the store with which the next trial begins: usually this store. If its walk has little room left for a trial,
+    /// the sets found last are forgotten (see `MOST_SHARED`): a trial may add up to some 18,000 sets, and the sets found first
+    /// serve most trials. If trials in order have found `MOST_LOOKED` pairs or more since the store was made and the walk has
+    /// at most `MOST_REACHED` sets, the sets reached from the start are searched for again, and `patience` is then practically
+    /// unlimited. What else is known of the automaton is kept.
     ///
     /// # Errors
     /// The errors of [`Store::closed`].
@@ -213,13 +286,12 @@ impl Store {
         requires { IsStore a.now self }
         ensures { IfOk result (IsStore a.now) }
     {
-        if self.reached.is_none() && self.walk.len() > MOST_SHARED {
-            return Store::begun(alloc, a, self.known);
+        let mut store = self;
+        store.make_room(a);
+        if store.patience > 0 || store.walk.len() > MOST_REACHED {
+            return Ok(store);
         }
-        if self.patience > 0 || self.walk.len() > MOST_REACHED {
-            return Ok(self);
-        }
-        Store::closed(alloc, a, MOST_REACHED, usize::MAX, self.known)
+        Store::closed(alloc, a, MOST_REACHED, usize::MAX, store.known)
     }
 
     /// Returns a store with the sets reached from the start. If there are `most` or more of them, they don't count as known,

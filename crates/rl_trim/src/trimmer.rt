@@ -11,19 +11,25 @@ ghost use Rattle.rl_equiv.specs.Bases.{IsBase};
 ghost use Rattle.rl_equiv.specs.Limits.{IsWithin};
 ghost use Rattle.rl_equiv.specs.SetPairs.{set_pairs};
 ghost use Rattle.rl_trim.specs.Without.{Without};
+ghost use Rattle.rl_trim.specs.declared.judgement.Judgement.TheVariants.{Equal};
 ghost use Rattle.rl_trim.specs.Judged.{IsJudged, IsFound, IsTrueJudgement};
 ghost use Rattle.rl_trim.specs.Reached.{IsClosedTo, IsStore, IsStoreIf};
 ghost use Rattle.rl_trim.specs.internal.Trims.{trim_pairs};
 ghost use Rattle.rl_trim.specs.internal.Quick.{IsGrown};
-ghost use Rattle.rl_trim.specs.internal.Twins.{HasTwin};
+ghost use Rattle.rl_trim.specs.Twins.{HasTwin};
 ghost use Rattle.rl_trim.specs.Known.{whole_pairs};
+ghost use Rattle.rl_trim.specs.Endings.{AreEnding};
+ghost use Rattle.rl_trim.specs.Changes.{AreChangesIf};
 
-use crate::branch::Branch;
+use crate::branch::{Branch, ending_or};
+use crate::changes::Changes;
 use crate::judgement::Judgement;
 use crate::order::Order;
 use crate::quick::quick_trial;
 use crate::store::{Known, Store, Whole};
 use crate::twins::{Targets, has_twin};
+use rl_equiv::Baseline;
+use rl_lanes::BitRow;
 use rl_lists::OutOfMemory;
 use rl_prio::{Prio, PrioError};
 use rl_ranges::Universe;
@@ -63,21 +69,36 @@ fn close(alloc: Global, a: &Prio) -> Result<Option<Store>, OutOfMemory>
     }
 }
 
+/// Returns a trimmer with the automaton `automaton` and a first store for it.
+fn trimmer_on(alloc: Global, automaton: Prio) -> Result<Trimmer, OutOfMemory>
+    ensures { IfOk result (λ t. t ≡ automaton) }
+{
+    let Ok(store) = close(alloc, &automaton) else {
+        drop(automaton);
+        return Err(OutOfMemory);
+    };
+    Ok(Trimmer { automaton, store })
+}
+
 /// Returns the result of a trial of the branch in order, and lowers `patience` by the number of pairs found, to 0 at least.
-/// `limit` is the most pairs that the trial may look at.
+/// `limit` is the most pairs that the trial may look at. The changes of the states are found and kept in `changes` if they are
+/// needed and aren't there yet.
 fn trial_in_order(
     alloc: Global,
     branch: &Branch,
     walk: &mut SetWalk,
+    changes: &mut Option<Changes>,
     patience: &mut usize,
     limit: u32,
 ) -> Result<Judgement, SetsError>
-    requires { IsClosedTo branch.now.automaton.now walk.old 0 (length walk.old.sets) }
+    requires closed { IsClosedTo branch.now.automaton.now walk.old 0 (length walk.old.sets) }
+    requires changes { AreChangesIf branch.now.automaton.now changes.old }
     ensures found { IfOk result (IsFound (trim_pairs branch.now.automaton.now branch.now.keep.now) limit) }
     ensures grown { OnOk result (IsGrown branch.now.automaton.now walk.old walk.new) }
+    ensures changes { OnOk result (AreChangesIf branch.now.automaton.now changes.new) }
 {
     let mut order = Order::new(alloc)?;
-    let found = order.judge(branch, walk, limit as usize);
+    let found = order.judge(branch, walk, changes, limit as usize);
     *patience = patience.saturating_sub(order.keys.len());
     drop(order);
     found
@@ -103,14 +124,17 @@ fn quick_trial_in(
 }
 
 /// Returns the result of the trial that leaves nothing out: the result kept in the store, if it is for this limit. Otherwise
-/// carries out the trial in order and keeps its result.
+/// carries out the trial in order and keeps its result. The row `ending` must have a bit for each state, which is set if the
+/// state moves to the accepting state on the end letter.
 fn whole_trial(
     alloc: Global,
     store: &mut Store,
     a: &Prio,
+    ending: &BitRow,
     limit: u32,
 ) -> Result<Judgement, SetsError>
-    requires { IsStore a.now store.old }
+    requires store { IsStore a.now store.old }
+    requires ending { AreEnding a.now a.now.states ending.now }
     ensures found { IfOk result (IsFound (whole_pairs a.now) limit) }
     ensures store { OnOk result (IsStore a.now store.new) }
 {
@@ -119,8 +143,15 @@ fn whole_trial(
     {
         return Ok(whole.found);
     }
-    let nothing = Branch::new(alloc, a, &[])?;
-    let found = trial_in_order(alloc, &nothing, &mut store.walk, &mut store.patience, limit)?;
+    let nothing = Branch::new(alloc, a, ending, &[])?;
+    let found = trial_in_order(
+        alloc,
+        &nothing,
+        &mut store.walk,
+        &mut store.known.changes,
+        &mut store.patience,
+        limit,
+    )?;
     store.known.whole = Some(Whole { limit, found });
     Ok(found)
 }
@@ -132,15 +163,40 @@ fn finds_twin(alloc: Global, branch: &Branch, store: &mut Store) -> Result<bool,
     ensures twin { IfOk result (λ told. told ≡ true → HasTwin branch.now.automaton.now branch.now.keep.now) }
     ensures store { OnOk result (IsStore branch.now.automaton.now store.new) }
 {
+    // Reading the number of states tells the prover that the automaton is well formed.
+    let _states = branch.automaton.states();
     let targets = Targets::found_or_new(alloc, branch.automaton, store.known.targets.take())?;
-    let told = has_twin(branch, &targets);
+    let told = has_twin(branch.automaton, &targets, &[], branch.keep);
     store.known.targets = Some(targets);
     Ok(told)
 }
 
-/// Returns the result of a trial of a branch. A quick trial is carried out first. If it doesn't decide, the result is the
-/// result of the trial that leaves nothing out if an equal branch is found beside the branch, and otherwise the result of a
-/// trial in order.
+/// Returns the result of a trial of a branch that has an equal branch beside it: that of the trial that leaves nothing out. If
+/// the languages are equal, the store keeps a copy of the flags of the branch.
+fn twin_trial(
+    alloc: Global,
+    branch: &Branch,
+    store: &mut Store,
+    limit: u32,
+) -> Result<Judgement, SetsError>
+    requires store { IsStore branch.now.automaton.now store.old }
+    requires twin { HasTwin branch.now.automaton.now branch.now.keep.now }
+    ensures found { IfOk result (IsFound (trim_pairs branch.now.automaton.now branch.now.keep.now) limit) }
+    ensures store { OnOk result (IsStore branch.now.automaton.now store.new) }
+{
+    let found = whole_trial(alloc, store, branch.automaton, branch.ending, limit)?;
+    if let Judgement::Equal = found {
+        let kept = branch.keep.to_vec(alloc)?;
+        drop(store.known.twinned.replace(kept));
+    }
+    Ok(found)
+}
+
+/// Returns the result of a trial of a branch. A quick trial is carried out first. Unless it finds that the languages differ or
+/// that the limit is passed, an equal branch is looked for beside the branch. If one is found, the result is that of the trial
+/// that leaves nothing out. This is so even if the quick trial finds equal languages: the store then knows the flags of the
+/// branch, which [`Trimmer::stays_equal`] needs. If none is found, the result is that of the quick trial, or of a trial in
+/// order if the quick trial doesn't decide.
 fn trial_of(
     alloc: Global,
     branch: &Branch,
@@ -151,16 +207,28 @@ fn trial_of(
     ensures found { IfOk result (IsFound (trim_pairs branch.now.automaton.now branch.now.keep.now) limit) }
     ensures store { OnOk result (IsStore branch.now.automaton.now store.new) }
 {
-    if let Some(found) = quick_trial_in(alloc, branch, store, limit)? {
+    let quick = quick_trial_in(alloc, branch, store, limit)?;
+    if let Some(found @ (Judgement::Apart | Judgement::Passed)) = quick {
         return Ok(found);
     }
     if finds_twin(alloc, branch, store)? {
-        return whole_trial(alloc, store, branch.automaton, limit);
+        return twin_trial(alloc, branch, store, limit);
     }
-    trial_in_order(alloc, branch, &mut store.walk, &mut store.patience, limit)
+    match quick {
+        Some(found) => Ok(found),
+        None => trial_in_order(
+            alloc,
+            branch,
+            &mut store.walk,
+            &mut store.known.changes,
+            &mut store.patience,
+            limit,
+        ),
+    }
 }
 
-/// Returns the result of the trial that leaves out the places whose flags in `keep` are false.
+/// Returns the result of the trial that leaves out the places whose flags in `keep` are false. The row of the states that move
+/// to the accepting state on the end letter is kept in the store.
 fn trial_on(
     alloc: Global,
     store: &mut Store,
@@ -172,8 +240,11 @@ fn trial_on(
     ensures found { IfOk result (IsFound (trim_pairs a.now keep.now) limit) }
     ensures store { OnOk result (IsStore a.now store.new) }
 {
-    let branch = Branch::new(alloc, a, keep)?;
+    let ending = ending_or(alloc, a, store.known.ending.take())?;
+    let branch = Branch::new(alloc, a, &ending, keep)?;
     let found = trial_of(alloc, &branch, store, limit)?;
+    drop(branch);
+    store.known.ending = Some(ending);
     Ok(found)
 }
 
@@ -245,6 +316,34 @@ fn judge_if_room(
     }
 }
 
+/// Returns whether leaving out further branches is found to change nothing, as [`Trimmer::stays_equal`] says.
+fn stays_on(
+    alloc: Global,
+    store: &mut Store,
+    a: &Prio,
+    dropped: &[bool],
+    keep: &[bool],
+    limit: u32,
+) -> Result<bool, OutOfMemory>
+    requires { IsStore a.now store.old }
+    ensures equal { IfOk result (λ equal. equal ≡ true → IsFound (whole_pairs a.now) limit Equal) }
+    ensures dropped { IfOk result (λ equal. equal ≡ true → HasTwin a.now dropped.now) }
+    ensures keep { IfOk result (λ equal. equal ≡ true → HasTwin a.now keep.now) }
+    ensures store { IsStore a.now store.new }
+{
+    if !store.known.is_equal(limit) || !store.known.is_twinned(dropped) {
+        return Ok(false);
+    }
+    let targets = Targets::found_or_new(alloc, a, store.known.targets.take())?;
+    let told = has_twin(a, &targets, dropped, keep);
+    store.known.targets = Some(targets);
+    if told {
+        let kept = keep.to_vec(alloc)?;
+        drop(store.known.twinned.replace(kept));
+    }
+    Ok(told)
+}
+
 impl Trimmer {
     /// Returns a trimmer for a tree that is matched to the end of the text. The sets of the tree must have only codes of the
     /// universe `u`. The tree must not exceed the limits on its nodes, its letters and the lengths of its item lists, which
@@ -261,15 +360,21 @@ impl Trimmer {
             Ok(automaton) => {
                 // Reading the number of states tells the prover that the automaton is well formed.
                 let _states = automaton.states();
-                let Ok(store) = close(alloc, &automaton) else {
-                    drop(automaton);
-                    return Err(OutOfMemory);
-                };
-                Ok(Trimmer { automaton, store })
+                trimmer_on(alloc, automaton)
             }
             Err(PrioError::OutOfMemory) => Err(OutOfMemory),
             Err(PrioError::Letters | PrioError::Moves) => unreachable!(),
         }
+    }
+
+    /// Returns a trimmer for the tree of a baseline, whose automaton it takes over.
+    ///
+    /// # Errors
+    /// [`OutOfMemory`] if there is not enough memory for it.
+    pub fn of_base(alloc: Global, base: Baseline) -> Result<Trimmer, OutOfMemory>
+        ensures { IfOk result (IsBase base.universe (tree_of base.tree)) }
+    {
+        trimmer_on(alloc, base.into_automaton())
     }
 
     /// Compares the language of the tree with the language of the tree without the branches whose places aren't kept. A place
@@ -302,5 +407,37 @@ impl Trimmer {
             }
             None => Ok(None),
         }
+    }
+
+    /// Returns true if leaving out further branches is found to change nothing: `dropped` says which places of the tree are
+    /// kept without the branches left out before, and `keep` which are kept without the further ones too. Both have one flag
+    /// for each place, from left to right. A comparison of the tree without the branches of `dropped` with the tree without
+    /// those of `keep`, with at most `limit` set pairs, then has the result [`Judgement::Equal`]. Returns false if this isn't
+    /// found; that says nothing. It can be found only if the branches of `dropped` are the last ones that
+    /// [`Trimmer::judge`], with the same limit, or this function found to have equal branches beside them, and the further
+    /// branches have equal ones beside them too. The result has this meaning only if the tree has no guards, and the places
+    /// that aren't kept are, by either list, the places of branches none of which may span the empty text.
+    ///
+    /// # Errors
+    /// [`OutOfMemory`] if there is not enough memory for it.
+    pub fn stays_equal(
+        &mut self,
+        alloc: Global,
+        dropped: &[bool],
+        keep: &[bool],
+        limit: u32,
+    ) -> Result<bool, OutOfMemory>
+        ensures judged { IfOk result (λ equal. equal ≡ true → (u : AnyUniverse) (r s t : Tree) → IsBase u t self.old → guards_in t ≡ []
+            → Without dropped.now s t → Without keep.now r t → IsJudged (set_pairs u s r) limit Equal) }
+        ensures told { IfOk result (λ equal. equal ≡ true → (u : AnyUniverse) (r s t : Tree) → IsBase u t self.old → guards_in t ≡ []
+            → Without dropped.now s t → Without keep.now r t → IsTrueJudgement u s r Equal) }
+        ensures unchanged { self.new ≡ self.old }
+    {
+        let Some(mut store) = self.store.take() else {
+            return Ok(false);
+        };
+        let told = stays_on(alloc, &mut store, &self.automaton, dropped, keep, limit);
+        drop(self.store.replace(store));
+        told
     }
 }

@@ -6,15 +6,18 @@
 //! replacement stands in for a state if it is kept, isn't the dead state unless the state is, and moves, on each letter and
 //! the end letter, to the replacement of each target of the state. It is checked on the automaton that this is so for all
 //! states.
+//!
+//! Other branches may have been left out before, each with an equal branch beside it. Their states are no longer looked at,
+//! neither as states to be replaced nor as targets, since states that were kept stand in for them.
 
-ghost use Rattle.std.specs.Prelude.{◌≡◌, ℕ, suc, ◌+◌, ◌<◌, ◌≤◌, ◌⊎◌, true, length, IfOk, OnOk, IfSome};
+ghost use Rattle.std.specs.Prelude.{◌≡◌, ℕ, suc, ◌+◌, ◌<◌, ◌≤◌, ◌⊎◌, true, ◌&&◌, not, length, IfOk, OnOk, IfSome};
 ghost use Rattle.rl_prio.specs.Automaton.{letters_count, dead_state};
 ghost use Rattle.rl_sets.specs.Live.{holds as holds_in};
 ghost use Rattle.rl_trim.specs.Targets.{HasTargets, AreTargets};
-ghost use Rattle.rl_trim.specs.internal.Sunk.{is_kept as is_kept_in};
-ghost use Rattle.rl_trim.specs.internal.Twins.{stand_in as stand_in_of, Follows, StandsIn, AreTwins, HasTwin};
+ghost use Rattle.rl_trim.specs.Twins.{is_kept as is_kept_in, HasTwin};
+ghost use Rattle.rl_trim.specs.internal.Twins.{stand_in as stand_in_of, FollowsAfter, StandsInAfter, IsReplaced, AreTwinsAfter};
 
-use crate::branch::{Branch, is_kept};
+use crate::branch::is_kept;
 use rl_lists::{Members, OutOfMemory};
 use rl_prio::Prio;
 use std::alloc::Global;
@@ -30,7 +33,8 @@ pub(crate) struct Targets {
 }
 
 /// Appends the targets of a state on a letter to the list, unless the state has the same moves on the letter before. The list
-/// must already have the targets on all letters before.
+/// must already have the targets on all letters before. A target that the list ends with isn't appended again, since a state
+/// often has many moves to the dead state on one letter, one after another.
 fn add_targets(list: &mut Vec<u32>, a: &Prio, state: u32, letter: u32) -> Result<(), OutOfMemory>
     requires state_in { state < a.now.states }
     requires letter_in { letter ≤ letters_count a.now }
@@ -41,7 +45,12 @@ fn add_targets(list: &mut Vec<u32>, a: &Prio, state: u32, letter: u32) -> Result
     if letter > 0 && a.moves(state, letter - 1) == targets {
         return Ok(());
     }
-    list.extend_from_slice(targets)?;
+    for target in targets {
+        if list.last() == Some(target) {
+            continue;
+        }
+        list.push(*target)?;
+    }
     Ok(())
 }
 
@@ -109,14 +118,23 @@ fn holds(targets: &[u32], state: u32) -> bool
     targets.iter().any(|target| *target == state)
 }
 
+/// Returns whether a state has to be replaced: `before` keeps it, and `keep` doesn't.
+fn goes(before: &[bool], keep: &[bool], state: u32) -> bool
+    ensures { result ≡ (is_kept_in before.now state && not (is_kept_in keep.now state)) }
+{
+    is_kept(before, state) && !is_kept(keep, state)
+}
+
 /// A way to replace the states of a branch that is left out by the states of another branch. Kept states are replaced by
-/// themselves.
+/// themselves. States of branches that were left out before aren't looked at.
 #[derive(Drop)]
 struct Shift<'a> {
     /// The automaton.
     automaton: &'a Prio,
     /// The targets of the automaton's states.
     targets: &'a Targets,
+    /// For each place of the tree, whether it was kept before the branch is left out.
+    before: &'a [bool],
     /// For each place of the tree, whether it is kept.
     keep: &'a [bool],
     /// The number that is added, modulo 2^32, to a state that isn't kept to get its replacement.
@@ -136,16 +154,19 @@ impl<'a> Shift<'a> {
     }
 
     /// Returns whether `other`, the replacement of `state`, moves on a letter or the end letter to the replacement of each
-    /// target of `state` on it.
+    /// target of `state` on it that was kept before.
     fn follows(&self, state: u32, other: u32, letter: u32) -> bool
         requires state_in { state < self.now.automaton.now.states }
         requires other_in { other < self.now.automaton.now.states }
         requires other { other ≡ stand_in_of self.now.keep.now self.now.distance state }
         requires letter_in { letter ≤ letters_count self.now.automaton.now }
-        ensures { result ≡ true → Follows self.now.automaton.now (stand_in_of self.now.keep.now self.now.distance) state letter }
+        ensures { result ≡ true → FollowsAfter self.now.automaton.now self.now.before.now (stand_in_of self.now.keep.now self.now.distance) state letter }
     {
         let found = self.automaton.moves(other, letter);
         for target in self.automaton.moves(state, letter) {
+            if !is_kept(self.before, *target) {
+                continue;
+            }
             let wanted = self.stand_in(*target);
             // The state itself moves to this target, so it needn't be looked for.
             if other == state && wanted == *target {
@@ -167,16 +188,16 @@ impl<'a> Shift<'a> {
         is_kept(self.keep, other) && (other == state || other < self.automaton.dead())
     }
 
-    /// Returns whether a state is kept and moves only to kept states. If so, it stands in for itself.
+    /// Returns whether a state is kept and has no target to be replaced. If so, it stands in for itself.
     fn stays(&self, state: u32) -> bool
         requires { state < self.now.automaton.now.states }
-        ensures { result ≡ true → StandsIn self.now.automaton.now self.now.keep.now (stand_in_of self.now.keep.now self.now.distance) state }
+        ensures { result ≡ true → StandsInAfter self.now.automaton.now self.now.before.now self.now.keep.now (stand_in_of self.now.keep.now self.now.distance) state }
     {
         if !is_kept(self.keep, state) {
             return false;
         }
         for target in self.targets.lists[state as usize].as_slice() {
-            if !is_kept(self.keep, *target) {
+            if goes(self.before, self.keep, *target) {
                 return false;
             }
         }
@@ -186,7 +207,7 @@ impl<'a> Shift<'a> {
     /// Returns whether the replacement of a state stands in for it.
     fn stands_in(&self, state: u32) -> bool
         requires { state < self.now.automaton.now.states }
-        ensures { result ≡ true → StandsIn self.now.automaton.now self.now.keep.now (stand_in_of self.now.keep.now self.now.distance) state }
+        ensures { result ≡ true → StandsInAfter self.now.automaton.now self.now.before.now self.now.keep.now (stand_in_of self.now.keep.now self.now.distance) state }
     {
         if self.stays(state) {
             return true;
@@ -204,25 +225,37 @@ impl<'a> Shift<'a> {
         self.follows(state, other, end)
     }
 
-    /// Returns whether the replacement of each state from `first` to before `end` stands in for it.
+    /// Returns whether the replacement of a state stands in for it, if the state was kept before. Any other state must not be
+    /// kept now.
+    fn is_replaced(&self, state: u32) -> bool
+        requires { state < self.now.automaton.now.states }
+        ensures { result ≡ true → IsReplaced self.now.automaton.now self.now.before.now self.now.keep.now (stand_in_of self.now.keep.now self.now.distance) state }
+    {
+        if is_kept(self.before, state) {
+            return self.stands_in(state);
+        }
+        !is_kept(self.keep, state)
+    }
+
+    /// Returns whether each state from `first` to before `end` is replaced as [`Shift::is_replaced`] demands.
     fn all_stand_in(&self, first: u32, end: u32) -> bool
         requires { end ≤ self.now.automaton.now.states }
         ensures { result ≡ true → (q : ℕ) → first ≤ q → q < end
-            → StandsIn self.now.automaton.now self.now.keep.now (stand_in_of self.now.keep.now self.now.distance) q }
+            → IsReplaced self.now.automaton.now self.now.before.now self.now.keep.now (stand_in_of self.now.keep.now self.now.distance) q }
     {
         for state in first..end {
-            if !self.stands_in(state) {
+            if !self.is_replaced(state) {
                 return false;
             }
         }
         true
     }
 
-    /// Returns whether the accepting state is kept and the replacement of each state stands in for it. The states from `first`
-    /// on are looked at first.
+    /// Returns whether the accepting state is kept and each state is replaced as [`Shift::is_replaced`] demands. The states
+    /// from `first` on are looked at first.
     fn leads_to_twin(&self, first: u32) -> bool
         requires { first ≤ self.now.automaton.now.states }
-        ensures { result ≡ true → AreTwins self.now.automaton.now self.now.keep.now (stand_in_of self.now.keep.now self.now.distance) }
+        ensures { result ≡ true → AreTwinsAfter self.now.automaton.now self.now.before.now self.now.keep.now (stand_in_of self.now.keep.now self.now.distance) }
     {
         if !is_kept(self.keep, self.automaton.accepting()) {
             return false;
@@ -232,11 +265,12 @@ impl<'a> Shift<'a> {
     }
 }
 
-/// Returns the first of the states with the numbers below `states` that isn't kept, or `None` if all are.
-fn first_gone(keep: &[bool], states: u32) -> Option<u32>
+/// Returns the first of the states with the numbers below `states` that `before` keeps and `keep` doesn't, or `None` if there
+/// is none.
+fn first_gone(before: &[bool], keep: &[bool], states: u32) -> Option<u32>
     ensures { IfSome result (λ state. state < states) }
 {
-    (0..states).find(|state| !is_kept(keep, *state))
+    (0..states).find(|state| goes(before, keep, *state))
 }
 
 /// Returns the targets of one state on one letter: of the first state that moves to `state`, on the first letter on which it
@@ -257,26 +291,30 @@ fn rivals_of<'a>(automaton: &'a Prio, targets: &Targets, state: u32) -> &'a [u32
     &[]
 }
 
-/// Returns whether a branch has an equal branch beside it. If the result is true, there are replacements that stand in for all
-/// states. The result may be false although there is an equal branch, since only a few replacements are tried.
-pub(crate) fn has_twin(branch: &Branch, targets: &Targets) -> bool
-    requires { AreTargets branch.now.automaton.now branch.now.automaton.now.states targets.now.lists.items }
-    ensures { result ≡ true → HasTwin branch.now.automaton.now branch.now.keep.now }
+/// Returns whether the branch that `keep` leaves out, and `before` keeps, has an equal branch beside it. Each branch that
+/// `before` leaves out must have one. If the result is true, there are replacements that stand in for all states that `keep`
+/// doesn't keep. The result may be false although there is an equal branch, since only a few replacements are tried.
+pub(crate) fn has_twin(automaton: &Prio, targets: &Targets, before: &[bool], keep: &[bool]) -> bool
+    requires targets { AreTargets automaton.now automaton.now.states targets.now.lists.items }
+    requires before { HasTwin automaton.now before.now }
+    ensures { result ≡ true → HasTwin automaton.now keep.now }
 {
-    let automaton = branch.automaton;
-    let keep = branch.keep;
-    let Some(first) = first_gone(keep, automaton.states()) else {
+    let Some(first) = first_gone(before, keep, automaton.states()) else {
         return false;
     };
     let rivals = rivals_of(automaton, targets, first);
-    for rival in rivals.iter().take(MOST_TRIED) {
+    // The first rivals that are kept and lie before the dead state are tried. No other rival can stand in for the first state,
+    // and most rivals may be the dead state.
+    let fit = rivals.iter().filter(|rival| is_kept(keep, **rival) && **rival < automaton.dead());
+    for rival in fit.take(MOST_TRIED) {
         let shift = Shift {
             automaton,
             targets,
+            before,
             keep,
             distance: rival.wrapping_sub(first),
         };
-        if is_kept(keep, *rival) && shift.leads_to_twin(first) {
+        if shift.leads_to_twin(first) {
             return true;
         }
     }

@@ -1,11 +1,11 @@
--- For the contracts of private functions: the places of what is left of a pattern that are kept if one more branch is dropped.
--- The places of a part are the leaves, each of which matches one code, of the tree to which it is lowered, from left to right;
--- a repeat is lowered to several copies of its body. `drop` selects the branches that are dropped already, and `gone` is the
--- span of the branch to be dropped next.
+-- For the contracts of private functions: the places of what is left of a pattern that are kept if further branches are
+-- dropped. The places of a part are the leaves, each of which matches one code, of the tree to which it is lowered, from left
+-- to right; a repeat is lowered to several copies of its body. `drop` selects the branches that are dropped already, and `gone`
+-- those to be dropped next.
 use Rattle.std.specs.Prelude.{ℕ, zero, suc, ◌+◌, ◌-◌, Bool, true, false, not, ◌&&◌, ◌||◌, ◌==◌, if◌then◌else◌, List, [], ◌∷◌, ◌++◌, Option, None, Some}
 use Rattle.rl_syntax.specs.declared.span.Span.{Span}
 use Rattle.rl_syntax.specs.PatTree.{PatTree, PatTrees, BranchTrees, nothing, class, seq, choice, repeat, group, anchor, boundary, outside, no_items, item, no_branches, branch}
-use Rattle.rl_pattern.specs.Suggested.{same_span, some_kept}
+use Rattle.rl_pattern.specs.Suggested.{some_kept}
 
 -- The number of copies of its body to which a repeat is lowered: the greater of its two bounds, or one more than its lower
 -- bound if it has no upper bound.
@@ -43,8 +43,9 @@ module _ (drop : Span → Bool) where
     branch_spans_empty no_branches = false
     branch_spans_empty (branch s p bs) = (if drop s then false else spans_empty p) || branch_spans_empty bs
 
-module _ (drop : Span → Bool) (gone : Span) where
-  -- Whether the part has a branch with the span `gone`, outside all dropped branches, that may span the empty text.
+module _ (drop gone : Span → Bool) where
+  -- Whether the part has a branch to be dropped next that may span the empty text. Only branches that aren't inside a dropped
+  -- branch, nor inside another branch to be dropped next, are looked at.
   abbrev mutual
     pub loses_empty : PatTree → Bool
     loses_empty (nothing s) = false
@@ -57,20 +58,19 @@ module _ (drop : Span → Bool) (gone : Span) where
     loses_empty (boundary s negated ascii) = false
     loses_empty (outside s what) = false
 
-    -- Whether one of the items has a branch with the span `gone`, outside all dropped branches, that may span the empty text.
+    -- Whether one of the items has such a branch.
     pub items_lose_empty : PatTrees → Bool
     items_lose_empty no_items = false
     items_lose_empty (item p ps) = loses_empty p || items_lose_empty ps
 
-    -- Whether one of these branches, or of the branches inside them, has the span `gone`, is outside all dropped branches and
-    -- may span the empty text.
+    -- Whether one of these branches is such a branch, or has one inside it.
     pub branches_lose_empty : BranchTrees → Bool
     branches_lose_empty no_branches = false
-    branches_lose_empty (branch s p bs) = (if drop s then false else if same_span gone s then spans_empty drop p else loses_empty p) || branches_lose_empty bs
+    branches_lose_empty (branch s p bs) = (if drop s then false else if gone s then spans_empty drop p else loses_empty p) || branches_lose_empty bs
 
   -- A flag for each place of what is left of a part without the dropped branches, which says whether the place is kept if the
-  -- branch with the span `gone` is dropped too. The first argument is false if the part is inside this branch; then all flags
-  -- are false.
+  -- branches to be dropped next are dropped too. The first argument is false if the part is inside one of these; then all
+  -- flags are false.
   abbrev mutual
     pub flags_in : Bool → PatTree → List Bool
     flags_in keep (nothing s) = []
@@ -91,4 +91,4 @@ module _ (drop : Span → Bool) (gone : Span) where
     -- The flags of the places of the branches that aren't dropped, branch by branch.
     pub branches_flags : Bool → BranchTrees → List Bool
     branches_flags keep no_branches = []
-    branches_flags keep (branch s p bs) = if drop s then branches_flags keep bs else flags_in (keep && not (same_span gone s)) p ++ branches_flags keep bs
+    branches_flags keep (branch s p bs) = if drop s then branches_flags keep bs else flags_in (keep && not (gone s)) p ++ branches_flags keep bs

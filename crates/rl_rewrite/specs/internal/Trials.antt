@@ -1,17 +1,20 @@
 -- For the contracts of private functions: the meaning of the outcomes of trials, and what is known of the branches tried so
--- far. A trial of a branch compares the language of a body with and without the branch, up to a limit on set pairs, which are
--- two sets of states to which the same word leads. Branches are identified by their spans.
-use Rattle.std.specs.Prelude.{◌≡◌, ℕ, true, List, []}
+-- far and of the automaton on which branches are tried. A trial of a branch compares the language of a body with and without
+-- the branch, up to a limit on set pairs, which are two sets of states to which the same word leads. Branches are identified
+-- by their spans.
+use Rattle.std.specs.Prelude.{◌≡◌, ℕ, true, List, [], ◌++◌}
 use Rattle.rl_ranges.specs.declared.universe.Universe.{Universe}
 use Rattle.rl_syntax.specs.declared.span.Span.{Span}
 use Rattle.rl_syntax.specs.PatTree.{PatTree}
 use Rattle.rl_syntax.specs.SameSpans.{OneLanguage}
 use Rattle.rl_syntax.specs.Tree.{Tree}
+use Rattle.rl_equiv.specs.Bases.{IsBase}
 use Rattle.rl_pattern.specs.Suggested.{Verdict, equal, apart, undecided, Tried, among, may_go, without}
 use Rattle.rl_trim.specs.declared.judgement.Judgement.{Judgement}
 use Rattle.rl_trim.specs.declared.judgement.Judgement.TheVariants as judgement
 use Rattle.rl_rewrite.specs.declared.trial.Trial.{Trial}
 use Rattle.rl_rewrite.specs.declared.trial.Trial.TheVariants.{Equal, Apart, GaveUp}
+use Rattle.rl_rewrite.specs.declared.trying.Trials.{Trials}
 use Rattle.rl_rewrite.specs.Verdicts.{IsVerdict}
 
 -- The verdict that has the same meaning as the outcome of a trial: `equal` for `Equal`, `apart` for `Apart`, and `undecided`
@@ -42,3 +45,14 @@ pub record AreTried (u : Universe) (limit : ℕ) (body : PatTree) (bs dropped pa
   pub tried : Tried (IsVerdict u limit) body bs dropped passed
   pub goes : may_go (among dropped) body ≡ true
   pub language : OneLanguage u (without [] body) (without dropped body)
+
+-- Holds if the second list is the first one with some branches before it.
+abbrev pub IsEndOf : List Span → List Span → Type 0
+IsEndOf end all = (first : List Span) × (first ++ end ≡ all)
+
+-- Holds if branches can be tried on the automaton after those in `dropped` were dropped: it is the automaton of the body
+-- without the branches of `begun`, and these are the last ones of `dropped`. The branches before them were dropped since the
+-- automaton was made.
+pub record AreBegun (u : Universe) (body : PatTree) (dropped : List Span) (trials : Trials) : Type 0 where
+  pub base : IsBase u (without trials.begun body) trials.trimmer
+  pub last : IsEndOf trials.begun dropped

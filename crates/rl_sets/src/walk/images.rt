@@ -1,6 +1,6 @@
 //! The images of the sets of a walk, and their numbers.
 
-ghost use Rattle.std.specs.Prelude.{◌≡◌, ◌+◌, ◌*◌, ◌<◌, ◌≤◌, suc, length, replicate, false, slice_get, slice_index_or, None, Some, IfOk, IfSome, OnOk};
+ghost use Rattle.std.specs.Prelude.{◌≡◌, ℕ, ◌+◌, ◌*◌, ◌<◌, ◌≤◌, suc, length, replicate, false, slice_get, slice_index_or, None, Some, IfOk, IfSome, OnOk};
 ghost use Rattle.rl_prio.specs.Automaton.{letters_count};
 ghost use Rattle.rl_sets.specs.Live.{image};
 ghost use Rattle.rl_sets.specs.Rows.{members_of};
@@ -32,6 +32,30 @@ fn place_of(a: &Prio, set: u32, letter: u32) -> usize
 {
     let width = a.letters().count() as usize + 1;
     set as usize * width + letter as usize
+}
+
+/// Forgets in a list of images what it has of the sets whose numbers aren't below `len`: their entries, and their numbers in
+/// the entries of other sets.
+pub(crate) fn shorten_images(images: &mut Vec<Option<u32>>, a: &Prio, len: u32)
+    ensures few { length images.new.items ≤ len * suc (letters_count a.now) }
+    ensures below { (i m : ℕ) → slice_index_or images.new.items i None ≡ Some m → (slice_index_or images.old.items i None ≡ Some m) × (m < len) }
+{
+    images.truncate(place_of(a, len, 0));
+    forget_from(images.as_mut_slice(), len);
+}
+
+/// Replaces by `None` each number in a list of images that isn't below `len`.
+fn forget_from(images: &mut [Option<u32>], len: u32)
+    ensures size { length images.new ≡ length images.old }
+    ensures below { (i m : ℕ) → slice_index_or images.new i None ≡ Some m → (slice_index_or images.old i None ≡ Some m) × (m < len) }
+{
+    for image in images.iter_mut() {
+        if let Some(number) = *image {
+            if number >= len {
+                *image = None;
+            }
+        }
+    }
 }
 
 impl SetWalk {

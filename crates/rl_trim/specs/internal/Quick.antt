@@ -11,7 +11,7 @@ use Rattle.rl_equiv.specs.declared.pair.SetPair.{SetPair}
 use Rattle.rl_trim.specs.declared.branch.Trims.{Trims}
 use Rattle.rl_trim.specs.declared.key.Key.{Key}
 use Rattle.rl_trim.specs.Reached.{IsClosedTo}
-use Rattle.rl_trim.specs.internal.Sunk.{is_kept}
+use Rattle.rl_trim.specs.Twins.{is_kept}
 use Rattle.rl_trim.specs.internal.Trims.{trimmed, trim_on, trim_differs}
 
 -- Holds if the walk `new` belongs to the automaton and has all sets of the walk `old`, with the same numbers.

@@ -1,22 +1,18 @@
 -- For the proofs of trials: the states of a tree without some of its branches are the kept states of the whole tree,
 -- renumbered. The automaton of a tree without guards has the start, state 0, a state `p + 1` for each place `p`, then the
 -- accepting state and the dead state. The list `keep` has a flag for each place, which says whether it is kept.
-use Rattle.std.specs.Prelude.{◌≡◌, ℕ, zero, suc, ◌+◌, ◌<◌, Bool, true, List, [], ◌∷◌, length, slice_index_or, if◌then◌else◌}
+use Rattle.std.specs.Prelude.{◌≡◌, ℕ, zero, suc, ◌+◌, ◌<◌, Bool, true, List, [], ◌∷◌, length, if◌then◌else◌}
 use Rattle.rl_syntax.specs.declared.re.Ending.TheVariants.{AtEnd}
 use Rattle.rl_syntax.specs.Tree.{Tree, places}
 use Rattle.rl_prio.specs.States.{dead, state_count, moves_over}
 use Rattle.rl_sets.specs.Live.{holds}
+use Rattle.rl_trim.specs.Twins.{is_kept}
 
 -- How many of the first `p` places are kept; `p` is the second argument. Places without a flag count as kept.
 abbrev pub kept_before : List Bool → ℕ → ℕ
 kept_before keep zero = 0
 kept_before [] (suc p) = suc (kept_before [] p)
 kept_before (k ∷ keep) (suc p) = (if k then 1 else 0) + kept_before keep p
-
--- Whether a state is kept. Every state is, except the states of places whose flag is false.
-abbrev pub is_kept : List Bool → ℕ → Bool
-is_kept keep zero = true
-is_kept keep (suc p) = slice_index_or keep p true
 
 -- The number that a kept state of the whole tree has in the tree without the branches: the same number, less the number of
 -- states before it that aren't kept.

@@ -1,13 +1,13 @@
 -- For trials on one automaton, the automaton of the whole tree: pairs of sets of its states. The first set is one that the
 -- whole tree reaches, and the second one that the tree without some branches reaches, with states of the whole tree. The list
 -- `keep` says which places are kept; states of other places are left out of second sets.
-use Rattle.std.specs.Prelude.{◌≡◌, ℕ, ◌<◌, Bool, true, false, not, List, [], ◌∷◌, length, slice_index_or, map, filter, All}
+use Rattle.std.specs.Prelude.{◌≡◌, ℕ, ◌<◌, Bool, true, not, List, [], ◌∷◌, map, filter, All}
 use Rattle.std.proofs.Math.Bool.{beq}
-use Rattle.rl_prio.specs.Automaton.{Automaton, letters_count, accepting_state, moves_at}
+use Rattle.rl_prio.specs.Automaton.{Automaton, letters_count, accepting_state}
 use Rattle.rl_sets.specs.Live.{below, holds, image}
 use Rattle.rl_equiv.specs.declared.pair.SetPair.{SetPair}
 use Rattle.rl_equiv.specs.SetPairs.{first_pair, SetPairs}
-use Rattle.rl_trim.specs.internal.Sunk.{is_kept}
+use Rattle.rl_trim.specs.Twins.{is_kept}
 
 -- The set without the states that aren't kept.
 abbrev pub trimmed : List Bool → List ℕ → List ℕ
@@ -26,15 +26,6 @@ trim_nexts a keep p = map (trim_on a keep p) (below (letters_count a))
 abbrev pub trim_run : Automaton → List Bool → SetPair → List ℕ → SetPair
 trim_run a keep p [] = p
 trim_run a keep p (letter ∷ word) = trim_run a keep (trim_on a keep p letter) word
-
--- Whether the state `q` moves to the accepting state on the end letter.
-abbrev pub state_ends : Automaton → ℕ → Bool
-state_ends a q = holds (moves_at a q (letters_count a)) (accepting_state a)
-
--- Holds if there are `states` flags, and the flag with the index `q` says whether the state `q` moves to the accepting state
--- on the end letter.
-abbrev pub AreEnding : Automaton → ℕ → List Bool → Type 0
-AreEnding a states flags = (length flags ≡ states) × ((q : ℕ) → q < states → slice_index_or flags q false ≡ state_ends a q)
 
 -- Whether some member of the set moves to the accepting state on the end letter.
 abbrev pub set_ends : Automaton → List ℕ → Bool

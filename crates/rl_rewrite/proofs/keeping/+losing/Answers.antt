@@ -10,7 +10,7 @@ use Rattle.rl_rewrite.proofs.keeping.+losing.Goals.{items_may_lose_empty-in-Clas
 pub items_may_lose_empty-loop-item-preserved : goal.items_may_lose_empty-loop-item-preserved
 items_may_lose_empty-loop-item-preserved t c =
     let dropped = among c.args.dropped.now in
-    let gone = c.args.gone in
+    let gone = among c.args.gone.now in
     let one = loses_empty dropped gone (pat_of c.item-item.result) in
     let rest = items_lose_empty dropped gone (items_of (map pat_of (drop (c.loop-item.item-index + 1) c.args.items.now))) in
     let from : items_lose_empty dropped gone (items_of (map pat_of (drop c.loop-item.item-index c.args.items.now))) ≡ (one || rest) =

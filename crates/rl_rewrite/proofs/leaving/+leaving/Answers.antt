@@ -1,4 +1,4 @@
-use Rattle.std.proofs.Common.{◌≡◌, ◌+◌, true, false, if◌then◌else◌, ◌∷◌, ◌++◌, [], IfOk, drop, map, refl, sym, ap, ◌∙◌, subst}
+use Rattle.std.proofs.Common.{◌≡◌, ◌+◌, if◌then◌else◌, ◌∷◌, ◌++◌, [], IfOk, drop, map, refl, sym, ap, ◌∙◌, subst}
 use Rattle.rl_syntax.specs.declared.span.Span.{Span}
 use Rattle.rl_syntax.specs.declared.pat.Pat.{Pat-F}
 use Rattle.rl_syntax.specs.declared.pat.Pat.TheVariants as V

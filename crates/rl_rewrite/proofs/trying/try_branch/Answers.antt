@@ -5,7 +5,8 @@ use Rattle.rl_syntax.specs.Pattern.{body_of, universe_of}
 use Rattle.rl_syntax.specs.Tree.{tree_of}
 use Rattle.rl_pattern.specs.Suggested.{among, may_go, without}
 use Rattle.rl_rewrite.specs.declared.trial.Trial.TheVariants.{Equal, Apart, GaveUp}
-use Rattle.rl_rewrite.specs.internal.Trials.{AreTried}
+use Rattle.rl_rewrite.specs.internal.Trials.{AreTried, AreBegun}
+use Rattle.rl_rewrite.proofs.BegunTrials.{one_dropped}
 use Rattle.rl_rewrite.proofs.TriedOne.{none_some, alone, equal_one, apart_one, passed_next, verdict_found, told_found}
 use Rattle.rl_rewrite.proofs.trying.try_branch.Goals as goal
 
@@ -61,3 +62,16 @@ returns-in-Apart-clause-tree c =
 pub returns-in_ok-passed-in-GaveUp-clause-tree : goal.returns-in_ok-passed-in-GaveUp-clause-tree
 returns-in_ok-passed-in-GaveUp-clause-tree c =
     subst (λ d. IfSome c.trial_of.new.tries.base (λ b. tree_of b.tree ≡ without d (body_of c.args.p.now))) (sym c.in-Ok.ensures.dropped) c.in-Ok.ensures.tree
+
+pub returns-in-Equal-clause-begun : goal.returns-in-Equal-clause-begun
+returns-in-Equal-clause-begun c =
+    let e : c.in_ok-more.more ≡ c.args.branch ∷ c.args.tries.now.dropped = c.in_ok-more.ensures ∙ ap (λ d. c.args.branch ∷ d) c.as_slice.ensures in
+    one_dropped (universe_of c.args.p.now) (body_of c.args.p.now) c.args.branch c.args.tries.now.dropped c.in_ok-more.more e c.trial_of.new.trials c.in-Ok.ensures.begun
+
+pub returns-in-Apart-clause-begun : goal.returns-in-Apart-clause-begun
+returns-in-Apart-clause-begun c =
+    subst (λ d. AreBegun (universe_of c.args.p.now) (body_of c.args.p.now) d c.trial_of.new.trials) (sym c.in-Ok.ensures.dropped) c.in-Ok.ensures.begun
+
+pub returns-in_ok-passed-in-GaveUp-clause-begun : goal.returns-in_ok-passed-in-GaveUp-clause-begun
+returns-in_ok-passed-in-GaveUp-clause-begun c =
+    subst (λ d. AreBegun (universe_of c.args.p.now) (body_of c.args.p.now) d c.trial_of.new.trials) (sym c.in-Ok.ensures.dropped) c.in-Ok.ensures.begun

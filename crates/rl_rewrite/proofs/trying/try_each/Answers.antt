@@ -8,11 +8,11 @@ loop-branch-preserved c =
     let inv = c.loop-branch.invariant in (
       c.in-Some.branch.now ∷ inv.0,
       last_of c.loop-branch.branch-iterator.iter.rest.now c.next.new.self.iter.rest.now inv.0 c.args.branches.now c.in-Some.branch.now (grind (arith, common_steps)) inv.1,
-      c.in_ok-try_next.ensures.tried inv.0 inv.2,
-      c.in_ok-try_next.ensures.tree,
-      c.in_ok-try_next.ensures.universe,
-      c.in_ok-try_next.ensures.base,
+      c.in_ok-try_branch.ensures.tried inv.0 inv.2,
+      c.in_ok-try_branch.ensures.tree,
+      c.in_ok-try_branch.ensures.universe,
+      c.in_ok-try_branch.ensures.begun,
     )
 
 pub loop-branch-init : goal.loop-branch-init
-loop-branch-init c = ([], grind (arith, common_steps), c.requires.tried, c.requires.tree, c.requires.universe, c.requires.base)
+loop-branch-init c = ([], grind (arith, common_steps), c.requires.tried, c.requires.tree, c.requires.universe, c.requires.begun)

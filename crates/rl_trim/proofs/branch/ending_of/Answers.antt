@@ -1,5 +1,5 @@
 use Rattle.std.proofs.Common.{sym, subst, arith}
-use Rattle.rl_trim.specs.internal.Trims.{state_ends, AreEnding}
+use Rattle.rl_trim.specs.Endings.{state_ends, AreEnding}
 use Rattle.rl_trim.proofs.RowLaws.{filled-none, filled-set, filled-unset, ending-all}
 use Rattle.rl_trim.proofs.branch.ending_of.Goals as goal
 use Rattle.rl_trim.proofs.branch.ending_of.Goals.{then-state_ends, else-state_ends}

@@ -1,4 +1,4 @@
-use Rattle.rl_trim.specs.internal.Trims.{state_ends}
+use Rattle.rl_trim.specs.Endings.{state_ends}
 use Rattle.rl_trim.proofs.RowLaws.{IsFilled}
 use Rattle.rl_trim.proofs.branch.ending_of.Given as goal
 

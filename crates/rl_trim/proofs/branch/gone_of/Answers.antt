@@ -1,5 +1,5 @@
 use Rattle.std.proofs.Common.{ℕ, not, sym, ap, arith}
-use Rattle.rl_trim.specs.internal.Sunk.{is_kept}
+use Rattle.rl_trim.specs.Twins.{is_kept}
 use Rattle.rl_trim.proofs.RowLaws.{filled-none, filled-set, filled-unset, gone-all}
 use Rattle.rl_trim.proofs.branch.gone_of.Goals as goal
 use Rattle.rl_trim.proofs.branch.gone_of.Goals.{then-not-is_kept, else-not-is_kept}

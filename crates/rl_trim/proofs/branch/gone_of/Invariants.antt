@@ -1,5 +1,5 @@
 use Rattle.std.proofs.Common.{not}
-use Rattle.rl_trim.specs.internal.Sunk.{is_kept}
+use Rattle.rl_trim.specs.Twins.{is_kept}
 use Rattle.rl_trim.proofs.RowLaws.{IsFilled}
 use Rattle.rl_trim.proofs.branch.gone_of.Given as goal
 

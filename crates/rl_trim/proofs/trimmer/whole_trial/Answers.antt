@@ -2,6 +2,7 @@ use Rattle.std.proofs.Common.{List, Bool, subst}
 use Rattle.rl_prio.specs.Automaton.{Automaton}
 use Rattle.rl_trim.specs.Judged.{IsFound}
 use Rattle.rl_trim.specs.Known.{whole_pairs}
+use Rattle.rl_trim.specs.Changes.{AreChangesIf}
 use Rattle.rl_trim.specs.internal.Trims.{trim_pairs}
 use Rattle.rl_trim.specs.internal.Quick.{IsGrown}
 use Rattle.rl_trim.proofs.HolderLaws.{stored-grown}
@@ -24,6 +25,6 @@ returns-2-clause-store c = record {
   sets =
       stored-grown c.args.a.now c.args.store.now.walk c.trial_in_order.new.walk c.args.store.now.reached
       (subst (λ (b : Automaton). IsGrown b c.args.store.now.walk c.trial_in_order.new.walk) c.in_ok-nothing.ensures.automaton c.in_ok-found.ensures.grown)
-      c.requires.sets;
-  known = record { targets = c.requires.known.targets; whole = found-whole (goal.at.returns-2-clause-store c).In_ok-found };
+      c.requires.store.sets;
+  known = record { targets = c.requires.store.known.targets; ending = c.requires.store.known.ending; changes = subst (λ (b : Automaton). AreChangesIf b c.trial_in_order.new.changes) c.in_ok-nothing.ensures.automaton c.in_ok-found.ensures.changes; whole = found-whole (goal.at.returns-2-clause-store c).In_ok-found; twinned = c.requires.store.known.twinned };
 }

@@ -10,4 +10,4 @@ pub returns : goal.returns
 returns c =
     let b = c.args.self.now in
     let set = set_at c.args.walk.now c.args.set in
-    c.meets.ensures ∙ ending-any b.automaton.now set set b.ending c.states-states.ensures.automaton.three_states (c.requires.made.sets c.args.set c.requires.set_in) b.are_ending refl
+    c.meets.ensures ∙ ending-any b.automaton.now set set b.ending.now c.states-states.ensures.automaton.three_states (c.requires.made.sets c.args.set c.requires.set_in) b.are_ending refl

@@ -1,7 +1,7 @@
 use Rattle.std.proofs.Common.{◌<◌, ◌+◌, length, refl, sym, subst, arith}
 use Rattle.rl_trim.specs.internal.Trims.{trim_pairs}
 use Rattle.rl_trim.specs.internal.Orders.{pairs_in}
-use Rattle.rl_trim.specs.internal.Changing.{AreChangesIf}
+use Rattle.rl_trim.specs.Changes.{AreChangesIf}
 use Rattle.rl_trim.proofs.SetLaws.{grown-refl, grown-grown}
 use Rattle.rl_trim.proofs.LookLaws.{looking-start, looking-equal, looking-passed}
 use Rattle.rl_sets.specs.Walk.{Walk}
@@ -20,7 +20,7 @@ loop-place-init c =
         arrived = c.requires.arrived;
         looking = looking-start (trim_pairs a c.args.branch.now.keep.now) c.args.limit (pairs_in c.args.walk.now c.args.self.now.keys.keys) c.requires.one;
       };
-      changes = tt;
+      changes = c.requires.changes;
     }
 
 pub returns-then-place-len-clause-found : goal.returns-then-place-len-clause-found
@@ -108,3 +108,15 @@ returns-then-len-limit-2-clause-grown c = c.loop-place.invariant.judging.grown
 
 pub returns-clause-grown : goal.returns-clause-grown
 returns-clause-grown c = c.loop-place.invariant.judging.grown
+
+pub returns-then-place-len-clause-changes : goal.returns-then-place-len-clause-changes
+returns-then-place-len-clause-changes c = c.loop-place.invariant.changes
+
+pub returns-then-differs-clause-changes : goal.returns-then-differs-clause-changes
+returns-then-differs-clause-changes c = c.loop-place.invariant.changes
+
+pub returns-then-len-limit-2-clause-changes : goal.returns-then-len-limit-2-clause-changes
+returns-then-len-limit-2-clause-changes c = c.loop-place.invariant.changes
+
+pub returns-clause-changes : goal.returns-clause-changes
+returns-clause-changes c = c.loop-place.invariant.changes

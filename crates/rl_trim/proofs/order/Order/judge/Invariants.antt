@@ -1,4 +1,4 @@
-use Rattle.rl_trim.specs.internal.Changing.{AreChangesIf}
+use Rattle.rl_trim.specs.Changes.{AreChangesIf}
 use Rattle.rl_trim.proofs.KeyOrder.{IsJudging}
 use Rattle.rl_trim.proofs.order.Order.judge.Given as goal
 
