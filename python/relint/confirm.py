@@ -28,7 +28,7 @@ from .command_line import Parser, number, one_of
 from .facts import Sources, hidden_findings, uses_of
 from .growth import Meter, as_word
 from .judging import Judge
-from .program import TREE_FAULT
+from .program import TREE_FAULT, ProgramError
 from .rate import python_name
 from .reports import Entry, Text
 from .sites import Site, Source
@@ -181,8 +181,8 @@ class Trials:
     def outcome(self, job: Job) -> Outcome:
         """Tries a finding, and returns the result as `_outcome` gives it.
 
-        It is NOT_TRIED, without a trial, if the job has no pattern or no family, or if the time is over. Raises OSError if the
-        process can't be started.
+        It is NOT_TRIED, without a trial, if the job has no pattern or no family, or if the time is over. Raises ProgramError
+        if the process can't be started.
         """
         if job.site is None or job.entry.family is None:
             return Outcome(NOT_TRIED, why=job.why)
@@ -201,15 +201,20 @@ class Trials:
         """Does a task, as `_task` returns it, in a process of its own, and returns what it wrote.
 
         The process is killed once PATIENCE times 60 seconds more than 40 times the limit of a match have passed by the clock.
-        `timed_out` is True then; it is True too, and no process begins, if `stop` was called before. Raises OSError if the
-        process can't be started.
+        `timed_out` is True then; it is True too, and no process begins, if `stop` was called before. Raises ProgramError if
+        the process can't be started.
         """
         words = [*python_words(), TRIAL]
         with self._lock:
             if self._stopped:
                 return Run(0, [], True)
-            process = subprocess.Popen(words, stdin=subprocess.PIPE, stdout=subprocess.PIPE, stderr=subprocess.DEVNULL,
-                                       env=python_environment())
+            try:
+                process = subprocess.Popen(words, stdin=subprocess.PIPE, stdout=subprocess.PIPE, stderr=subprocess.DEVNULL,
+                                           env=python_environment())
+            except OSError as error:
+                # (the word is empty if Python doesn't know its own program)
+                name = words[0] or "this Python"
+                raise ProgramError(f"{name} can't be run for a trial: {error.strerror or error}") from error
             self._running.add(process)
         try:
             patience = (self.limits.seconds * 40 + 60) * PATIENCE
@@ -377,8 +382,8 @@ def confirm(words: argparse.Namespace) -> int:
     """Tries the findings that the command line asks for, and writes the results.
 
     Returns TREE_FAULT if something couldn't be read, otherwise 0. Raises GatherError if there is no report, JudgeError if
-    relint gives none for a source that may have changed, ProgramError if relint can't be run, OSError if the process of a
-    trial can't be started, and Unwritten if standard output can't be written.
+    relint gives none for a source that may have changed, ProgramError if relint can't be run or the process of a trial can't
+    be started, and Unwritten if standard output can't be written.
     """
     until = time.monotonic() + (words.total_seconds or judging.TOTAL_SECONDS)
     given = gather.gathered(words)
@@ -413,7 +418,7 @@ def _tried(
     """Tries the findings by their jobs, which are in the same order, and returns the results in this order.
 
     In the format text, the line of each result is written at once. No trial begins after `until`, a time of
-    `time.monotonic`. Raises Unwritten if standard output can't be written.
+    `time.monotonic`. Raises ProgramError if a trial can't be started, and Unwritten if standard output can't be written.
     """
     outcomes: List[Outcome] = []
     for entry, outcome in zip(findings, _outcomes(jobs, Trials(limits, until), words.jobs or 1)):
@@ -469,6 +474,7 @@ def _outcomes(jobs: Iterable[Job], trials: Trials, at_a_time: int) -> Iterator[O
     """Yields the results of the jobs in order, with up to `at_a_time` trials at the same time.
 
     If it ends early, as by a signal, trials that are still running are killed; a single trial is killed by `Trials.run`.
+    Raises ProgramError if a trial can't be started.
     """
     if at_a_time == 1:
         yield from map(trials.outcome, jobs)

@@ -13,8 +13,10 @@ import time
 import unittest
 from pathlib import Path
 from typing import Any, Dict, List, NamedTuple
+from unittest import mock
 
 from relint import confirm, trial
+from relint.program import ProgramError
 from relint.rate import python_name
 from relint.reports import Entry, Family, Place, Text
 from relint.sites import Site
@@ -146,6 +148,17 @@ class Whole(WithSources):
                 self.assertEqual(process.wait(600), 128 + number)
                 self.assertFalse(Path(f"/proc/{trial}").exists())
 
+    def test_a_python_that_cannot_be_started(self) -> None:
+        self.write("m.py", *['re.match(r"(?:a|a)*b", s)'] * 2)
+        script = "import sys; sys.executable = sys.argv.pop(1); from relint import confirm; sys.exit(confirm.main())"
+        python = str(self.folder / "none" / "python3")
+        for jobs in ("1", "2"):
+            words = [sys.executable, "-B", "-c", script, python, "--jobs", jobs, "m.py"]
+            done = subprocess.run(words, cwd=self.folder, stdin=subprocess.DEVNULL, capture_output=True, text=True,
+                                  env={**os.environ, "PYTHONPATH": str(ROOT / "python")})
+            said = f"relint-confirm: {python} can't be run for a trial: No such file or directory\n"
+            self.assertEqual((done.returncode, done.stdout, done.stderr), (2, "", said))
+
     def test_the_whole_time(self) -> None:
         self.write("m.py", 're.match(r"(?:a|a)*b", s)')
         trials = confirm.Trials(confirm.Limits(1, 10, 10 ** 9), time.monotonic() - 1)
@@ -201,6 +214,26 @@ class OneTrial(unittest.TestCase):
         entry = Entry("m.py", "exponential", Place(1, 1), "fullmatch", family=family)
         limits = confirm.Limits(seconds, longest, memory * 1_000_000)
         return confirm.Trials(limits).outcome(confirm.Job(entry, Site((), pattern, flags), mode=mode_of(entry.call, "search")))
+
+    def test_programs_that_cannot_be_started(self) -> None:
+        with tempfile.TemporaryDirectory() as folder:
+            for name, mode in (("text", 0o644), ("noise", 0o755), ("script", 0o755)):
+                path = Path(folder, name)
+                path.write_bytes(b"#!/none/such\n" if name == "script" else b"\0\xff")
+                path.chmod(mode)
+            for python in ("/none/such", folder, *(f"{folder}/{it}" for it in ("text", "noise", "script"))):
+                with self.subTest(python=python), mock.patch.object(sys, "executable", python):
+                    with self.assertRaisesRegex(ProgramError, f"^{re.escape(python)} can't be run for a trial: [A-Z]"):
+                        self.outcome("a*", Family(("", "b"), ("a",)))
+        # (where Python doesn't know its own program)
+        with mock.patch.object(sys, "executable", ""):
+            with self.assertRaisesRegex(ProgramError, "^this Python can't be run for a trial: [A-Z]"):
+                self.outcome("a*", Family(("", "b"), ("a",)))
+
+    def test_a_program_that_is_no_python(self) -> None:
+        with mock.patch.object(sys, "executable", shutil.which("true")):
+            outcome = self.outcome("a*", Family(("", "b"), ("a",)))
+        self.assertEqual(outcome, confirm.Outcome("not tried", why="Python ended early"))
 
     def test_patterns_that_this_python_refuses(self) -> None:
         outcome = self.outcome("(", Family(("", "b"), ("a",)))

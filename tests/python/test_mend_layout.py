@@ -3,6 +3,7 @@ from __future__ import annotations
 
 import re
 import unittest
+from itertools import product
 from pathlib import Path
 from typing import List
 
@@ -57,11 +58,14 @@ class Tokens(unittest.TestCase):
         self.assertEqual(with_layout(old, "c$", True).count("#"), 3)
         self.assertEqual(with_layout(" a # one", "b", True), " b # one")
         self.assertEqual(with_layout("a # one", "ab", True), "ab # one")
+        self.assertEqual(with_layout("ab # one (two)", "bac", True), "bac # one (two)")
 
     def test_what_is_put_behind_a_comment_begins_a_line(self) -> None:
-        for new in ("ab", "b", "xay", "(?:a|b)+"):
-            found = with_layout(" a # one\n b # two", new, True)
+        olds = (" a # one\n b # two", " a # one (1)\n b # two (2)", "a(?#(1)\n# b # (2)", " # (1)\n (?#(2) # (3)\n a # (4)")
+        for old, new in product(olds, ("", "a", "ab", "b", "xay", "ba", "(?:a|b)+", "a*?")):
+            found = with_layout(old, new, True)
             self.assertEqual(tree.read(found, re.X).tree, tree.read(new).tree, found)
+            self.assertEqual("".join(tokens_of(found, True)[1]), "".join(tokens_of(old, True)[1]))
 
     def test_parts_under_other_flags_are_left_alone(self) -> None:
         self.assertEqual(with_layout("a # x\n(?-x: b)", "c", True), "c")

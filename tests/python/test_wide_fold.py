@@ -3,12 +3,16 @@ from __future__ import annotations
 
 import textwrap
 import unittest
+from itertools import product
 from typing import Dict, List, Tuple, Union
 
 from relint.wide.find import Finder, Found
 from relint.wide.fold import ConstantFolder
+from relint.wide.known import Known as Value
+from relint.wide.known import NotKnown
 from relint.wide.modules import ModuleError, Modules, parsed
 from relint.wide.takers import own_rows, takers_of
+from relint.wide.texts import formatted
 
 Text = Union[str, bytes]
 
@@ -48,9 +52,9 @@ KNOWN: Tuple[Tuple[str, Text], ...] = (
     ("re.compile('a{%d}' % 3)", "a{3}"),
     ("W = b'\\xff|b'\nre.compile(b'(%s)%b{%d}%%' % (W, b'c', 3))", b"(\xff|b)c{3}%"),
     ("re.compile('%(one)s' % {'one': 'a'})", "a"),
-    ("W = 'a'\nre.compile('{}{{2}}{0}'.format(W) if False else W)", ""),
     ("W = 'a'\nre.compile('{0}{{2}}{0}'.format(W))", "a{2}a"),
     ("W = 'a'\nre.compile('{w}|{}'.format('b', w=W))", "a|b"),
+    ("re.compile('{w}{{{}}}{!r}'.format(2, 'b', w='a'))", "a{2}'b'"),
     ("W = 'a'\nre.compile(f'^{W}{{2}}$')", "^a{2}$"),
     ("N = 3\nre.compile(f'a{{{N}}}')", "a{3}"),
     ("WORDS = ('a', 'b')\nre.compile('|'.join(WORDS))", "a|b"),
@@ -124,6 +128,9 @@ UNKNOWN: Tuple[Tuple[str, str], ...] = (
     ("W = 'a'\nre.compile(f'{W:>5}')", "formatting with a width"),
     ("W = 'a'\nre.compile('{:>5}'.format(W))", "formatting with a width"),
     ("re.compile('%s %s' % ('a',))", "formatting that fails"),
+    ("re.compile('{} {0}'.format('a'))", "formatting that fails"),
+    ("W = 'a'\nre.compile('{0}{{2}}{}'.format(W))", "formatting that fails"),
+    ("re.compile('{!r}{w}{0!s}'.format('a', w='b'))", "formatting that fails"),
     ("re.compile(b'%s' % 'a')", "formatting of other kinds"),
     ("re.compile(b'%r' % b'a')", "formatting with a width"),
     ("re.compile(b'%(a)s' % {b'a': b'b'})", "% of other kinds"),
@@ -261,15 +268,13 @@ class Known(unittest.TestCase):
 
     def test_patterns(self) -> None:
         for source, pattern in KNOWN:
-            if pattern == "":
-                continue
             with self.subTest(source=source):
                 found = only(source)
                 self.assertEqual((found.pattern, found.why), (pattern, ""))
 
     def test_value_is_that_of_python(self) -> None:
         for source, pattern in KNOWN:
-            if pattern == "" or "def " in source or "class" in source:
+            if "def " in source or "class" in source:
                 continue
             with self.subTest(source=source):
                 taken: List[Text] = []
@@ -351,6 +356,23 @@ class Unknown(unittest.TestCase):
     def test_a_source_of_another_python_is_named(self) -> None:
         with self.assertRaisesRegex(ModuleError, "this Python can't parse it: .*line 1"):
             parsed("a.py", "print 'x'\n")
+
+
+class Formats(unittest.TestCase):
+    """`formatted` beside `str.format`, over all texts that are put together from a few pieces."""
+
+    PIECES = ("{", "}", "{}", "{0}", "{1!s}", "{w}", "{!r}", "{!x}", "{2}", "{:", "{:{}}", "{0:>5}", "{{", "}}", "!", "a")
+
+    def test_a_text_that_is_known_is_that_of_python(self) -> None:
+        parts, named = [Value("P"), Value("Q")], {"w": Value("W")}
+        for pieces in (it for count in range(4) for it in product(self.PIECES, repeat=count)):
+            form = "".join(pieces)
+            try:
+                found = formatted(Value(form), parts, named).value
+            except NotKnown:
+                continue
+            with self.subTest(form=form):
+                self.assertEqual(found, form.format("P", "Q", w="W"))
 
 
 class Loops(unittest.TestCase):

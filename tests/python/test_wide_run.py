@@ -9,7 +9,10 @@ from typing import Any, Dict, List, Mapping
 import show_support
 from relint import program, rules
 from relint.beyond import BeyondError, as_json, read_beyond
+from relint.config import Config
+from relint.exclusions import Exclusions
 from relint.reports import Entry, read_report
+from relint.selection import selected
 from relint.wide import run
 from relint.wide.crew import Crew
 from relint.wide.notebook import NotebookError, read_notebook
@@ -61,10 +64,10 @@ NOT_TAKEN = (
 
 
 def look(files: Mapping[str, object], **settings: Any) -> run.Result:
-    """What a run finds over files."""
+    """What a run finds over files, which are selected as the tools do it without a configuration."""
     with show_support.folder(files):
-        paths = list(run.files_below(["."]))
-        return run.run(paths, (), run.Settings(jobs=2, **settings))
+        selection = selected(["."], Exclusions(Config()), notebooks=True)
+        return run.run([*selection.files, *selection.notebooks], (), run.Settings(jobs=2, **settings))
 
 
 def patterns(result: run.Result) -> List[object]:

@@ -53,26 +53,18 @@ def with_layout(old: str, new: str, verbose: bool) -> str:
     after, _ = tokens_of(new, verbose)
     placed: Dict[int, str] = {}
     for at, to in enumerate(_places(before, after)):
-        placed[to] = placed.get(to, "") + _ended(gaps[at], to < len(after))
+        placed[to] = placed.get(to, "") + gaps[at]
     parts: List[str] = []
     for at, token in enumerate(after):
         parts += [placed.get(at, ""), token]
     return "".join([*parts, placed.get(len(after), "")])
 
 
-def _ended(gap: str, goes_on: bool) -> str:
-    """Returns the layout `gap`, with a line end added if a token follows and it seems to end in a comment after `#`.
-
-    That is, if there is a `#` in its last line, and it doesn't end with `)`. `goes_on` says that a token follows.
-    """
-    is_open = goes_on and "#" in gap.rpartition("\n")[2] and not gap.rstrip().endswith(")")
-    return gap + "\n" if is_open else gap
-
-
 def _places(before: List[str], after: List[str]) -> List[int]:
     """Returns, for each place between the old tokens, the place between the new tokens to which its layout goes.
 
-    Place number n is before the token number n, from 0; the last place is after the last token.
+    Place number n is before the token number n, from 0; the last place is after the last token, and always goes to the last
+    place. Only there can a comment after `#` lack its line end, so no token comes to stand in a comment.
     """
     places = [len(after)] * (len(before) + 1)
     for _, start, end, low, high in SequenceMatcher(None, before, after, autojunk=False).get_opcodes():

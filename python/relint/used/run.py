@@ -33,8 +33,8 @@ class _Binding:
 def module_parts(path: str) -> Parts:
     """Returns the parts of a file's dotted name as a module, with the names of all folders above its top package in front.
 
-    A file name that doesn't end with `.py` is taken whole. `/home/me/a/b.py` gives ("home", "me", "a", "b"), and
-    `/home/me/a/__init__.py` gives ("home", "me", "a").
+    A file name that doesn't end with `.py` is taken whole. `/top/a/b.py` gives ("top", "a", "b"), and `/top/a/__init__.py`
+    gives ("top", "a").
     """
     parts = [it for it in os.path.abspath(path).split(os.sep) if it]
     stem = parts[-1][:-3] if parts[-1].endswith(".py") else parts[-1]

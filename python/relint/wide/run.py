@@ -6,7 +6,6 @@ run.
 """
 from __future__ import annotations
 
-import os
 from collections import Counter
 from dataclasses import dataclass, field, replace
 from typing import Any, Callable, Dict, Iterable, Iterator, List, Mapping, Optional, Sequence, Set, Tuple
@@ -266,21 +265,3 @@ def judge_found(found: Sequence[Found], settings: Settings) -> Result:
     one = _Run((), settings)
     one.counts.seen = one.counts.folded = len(found)
     return Result(one.judged(found, ()), one.counts)
-
-
-def files_below(paths: Sequence[str]) -> Iterator[str]:
-    """Yields the Python files and notebooks below folders, without links. A path that isn't a folder is yielded itself.
-
-    The files in a folder come sorted by the bytes of their names, and before the files in folders below it. A link
-    among `paths` counts as no folder, and a folder that can't be listed as an empty one.
-    """
-    for path in paths:
-        if not os.path.isdir(path) or os.path.islink(path):
-            yield path
-            continue
-        for folder, folders, names in os.walk(path):
-            folders.sort(key=os.fsencode)
-            for name in sorted(names, key=os.fsencode):
-                whole = folder + name if folder.endswith("/") else f"{folder}/{name}"
-                if name.endswith((".py", ".ipynb")) and os.path.isfile(whole) and not os.path.islink(whole):
-                    yield whole

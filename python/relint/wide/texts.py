@@ -147,16 +147,20 @@ def _numbered(parts: Sequence[Known], number: int) -> Known:
 def formatted(form: Known, parts: Sequence[Known], named: Dict[str, Known]) -> Known:
     """Returns `form.format(*parts, **named)` for a text whose fields are names, numbers or empty, perhaps with `!r` or `!s`.
 
-    Raises NotKnown if a field has a format of its own, as in `{:>5}`, or has no value. Empty fields are numbered from 0, even
-    beside numbered ones, for which Python raises ValueError.
+    Empty fields are numbered from 0. Raises NotKnown if a field has a format of its own, as in `{:>5}`, or has no value, and
+    if Python raises ValueError, as it does for empty fields beside numbered ones or for a single brace.
     """
     text = form.value
     if not isinstance(text, str):
         raise NotKnown("format of other kinds")
+    fields = list(FIELD.finditer(text))
+    names = {it.group(1) for it in fields}
+    if "" in names and any(it and it.isdigit() for it in names):
+        raise NotKnown("formatting that fails")
     pieces: List[str] = []
     used: List[Known] = [form]
     at = taken = 0
-    for found in FIELD.finditer(text):
+    for found in fields:
         pieces.append(text[at:found.start()])
         at = found.end()
         if found.group() in ("{{", "}}"):

@@ -99,7 +99,8 @@ def hangs(
 
     Each pattern in `asked` comes with whether relint left it undecided. relint judges the loosened forms of all patterns, with
     these `options`, and then each pattern is tried on texts that are slow for its forms, `jobs` patterns at a time, at least
-    one. Then `trials` is stopped. Raises JudgeError and ProgramError as `judged` does, and OSError if no trial can be started.
+    one. Then `trials` is stopped. Raises JudgeError and ProgramError as `judged` does, and ProgramError if a trial can't be
+    started.
     """
     made = {question: forms(question.pattern, question.flags, undecided) for question, undecided in asked}
     questions = {(question, form): replace(question, pattern=form.pattern) for question, its in made.items() for form in its}
