@@ -49,6 +49,12 @@ class Words(unittest.TestCase):
                 self.assertEqual((status, out), (2, ""))
                 self.assertRegex(err, r"\Arelint-mend: [^\n]+\n\Z")
 
+    def test_python_that_cant_be_started_is_one_line(self) -> None:
+        with mock.patch("sys.executable", "/none/python3"):
+            status, _, err = ran(["--pattern", "(a|a)*b"])
+        told = "relint-mend: /none/python3 can't be run for a trial: No such file or directory\n"
+        self.assertEqual((status, err), (2, told))
+
     def test_a_path_and_a_pattern_are_told_apart(self) -> None:
         with tempfile.TemporaryDirectory() as folder:
             status, _, err = ran(["--pattern", folder])

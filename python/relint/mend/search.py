@@ -10,12 +10,14 @@ import heapq
 import itertools
 import os
 import re
+import sys
 import time
 from dataclasses import dataclass, field
 from difflib import SequenceMatcher
 from typing import Dict, Iterator, List, NamedTuple, Optional, Sequence, Set, Tuple
 
 from ..flags import front
+from ..program import ProgramError
 from ..reports import Verdict
 from ..verdicts import EXPONENTIAL, Order, degree, order
 from . import notes
@@ -235,7 +237,7 @@ class Search:
         """Searches, tries the cures with the running Python, and returns the outcome.
 
         Without a class of the original, or if that is undecided, nothing is searched and `why` says so.
-        Raises ProgramError if relint can't be run.
+        Raises ProgramError if relint can't be run, or if Python can't be started for a trial.
         """
         start, runs = time.monotonic(), self.asker.runs
         before = self.asker.classes([self.original], self.flags, self.mode)[0]
@@ -281,13 +283,19 @@ class Search:
     def try_out(self, outcome: Outcome) -> None:
         """Tries each cure with the running Python, and drops a cure if a text shows that it doesn't behave as its tier says.
 
-        Does nothing if there is no cure or the limit of texts is 0. If no cure is left, `outcome.why` says so.
+        Does nothing if there is no cure or the limit of texts is 0. If no cure is left, `outcome.why` says so. Raises
+        ProgramError if Python can't be started for a trial.
         """
         if not self.best or not self.limits.texts:
             return
         texts = Sampler(self.read).texts(self.limits.texts)
         for tier, cure in list(self.best.items()):
-            trial = tried(self.original, cure.pattern, self.flags, self.judge.views(cure.judgement), texts, tier)
+            try:
+                trial = tried(self.original, cure.pattern, self.flags, self.judge.views(cure.judgement), texts, tier)
+            except OSError as error:
+                # (the word is empty if Python doesn't know its own program)
+                name = sys.executable or "this Python"
+                raise ProgramError(f"{name} can't be run for a trial: {error.strerror or error}") from error
             self.trials[tier] = trial
             if trial.differs is not None:
                 del self.best[tier]
