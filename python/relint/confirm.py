@@ -28,7 +28,7 @@ from .command_line import Parser, number, one_of
 from .facts import Sources, hidden_findings, uses_of
 from .growth import Meter, as_word
 from .judging import Judge
-from .program import TREE_FAULT, ProgramError
+from .program import TREE_FAULT, not_started
 from .rate import python_name
 from .reports import Entry, Text
 from .sites import Site, Source
@@ -212,9 +212,7 @@ class Trials:
                 process = subprocess.Popen(words, stdin=subprocess.PIPE, stdout=subprocess.PIPE, stderr=subprocess.DEVNULL,
                                            env=python_environment())
             except OSError as error:
-                # (the word is empty if Python doesn't know its own program)
-                name = words[0] or "this Python"
-                raise ProgramError(f"{name} can't be run for a trial: {error.strerror or error}") from error
+                raise not_started(words[0], error) from error
             self._running.add(process)
         try:
             patience = (self.limits.seconds * 40 + 60) * PATIENCE

@@ -22,6 +22,14 @@ class ProgramError(Exception):
     """Raised if a program can't be found or run, or isn't the right one; the message says why."""
 
 
+def not_started(python: str, error: OSError) -> ProgramError:
+    """Returns the error for a Python that can't be started for a trial, where starting it raised `error`.
+
+    `python` is the path of its program, or "" if Python doesn't know its own program.
+    """
+    return ProgramError(f"{python or 'this Python'} can't be run for a trial: {error.strerror or error}")
+
+
 class TookLong(Exception):
     """Raised if a run took longer than it may; it was ended."""
 

@@ -17,7 +17,7 @@ from difflib import SequenceMatcher
 from typing import Dict, Iterator, List, NamedTuple, Optional, Sequence, Set, Tuple
 
 from ..flags import front
-from ..program import ProgramError
+from ..program import not_started
 from ..reports import Verdict
 from ..verdicts import EXPONENTIAL, Order, degree, order
 from . import notes
@@ -293,9 +293,7 @@ class Search:
             try:
                 trial = tried(self.original, cure.pattern, self.flags, self.judge.views(cure.judgement), texts, tier)
             except OSError as error:
-                # (the word is empty if Python doesn't know its own program)
-                name = sys.executable or "this Python"
-                raise ProgramError(f"{name} can't be run for a trial: {error.strerror or error}") from error
+                raise not_started(sys.executable, error) from error
             self.trials[tier] = trial
             if trial.differs is not None:
                 del self.best[tier]
