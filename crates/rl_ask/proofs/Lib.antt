@@ -1,0 +1,10 @@
+pub mod AnswerLemmas
+pub mod CompareLemmas
+pub mod CostLemmas
+pub mod FoundLemmas
+pub mod Plain
+pub mod ReplyLemmas
+pub mod SightLemmas
+pub mod TreeLemmas
+pub mod ValueLemmas
+pub mod RunLemmas

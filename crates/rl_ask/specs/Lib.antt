@@ -1,0 +1,17 @@
+pub mod Ungrouped
+pub mod Patterns
+pub mod Verdicts
+pub mod Comparisons
+pub mod Spans
+pub mod Finds
+pub mod Suggestions
+pub mod Costs
+pub mod Trees
+pub mod Explanations
+pub mod Answers
+pub mod Sights
+pub mod Document
+pub mod Sinks
+pub mod Lines
+pub mod Runs
+pub mod internal

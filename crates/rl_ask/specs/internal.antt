@@ -1,0 +1,5 @@
+-- Definitions for the contracts of private functions. No public contract reaches them.
+pub mod Limits
+pub mod Reads
+pub mod Replied
+pub mod Sizes

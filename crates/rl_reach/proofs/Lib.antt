@@ -1,0 +1,10 @@
+pub mod Later
+pub mod Hits
+pub mod Skipping
+pub mod Searches
+pub mod Afters
+pub mod Sums
+pub mod Constants
+pub mod Growth
+pub mod SmallDegrees
+pub mod FromMatch

@@ -1,0 +1,4 @@
+pub mod Behind
+pub mod Places
+pub mod Bounds
+pub mod internal

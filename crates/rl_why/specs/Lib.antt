@@ -1,0 +1,4 @@
+pub mod Shown
+pub mod Loops
+pub mod Readings
+pub mod internal
