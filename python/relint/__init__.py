@@ -1,4 +1,4 @@
-"""The tools around the program relint, a linter for the regular expressions in Python source.
+"""relint: finds regular expressions in Python code that crafted input can make extremely slow, and shows what helps.
 
-They run relint or read its reports, and show, try or mend what it finds. Nothing here is proved.
+The command is `rlt` (`relint.cli`). The judgements are those of the programs `relint` and `relint-ask`, which are proved.
 """

@@ -1,22 +1,26 @@
 """The plugin of flake8: each finding is a violation with its code, RLT100 and so on.
 
-flake8 itself says which files are looked at, and which codes are left out by `# noqa` or by its own settings. Only flake8
-imports this module.
+flake8 itself chooses the files, and leaves out codes by `# noqa` or by its own settings. Only flake8 imports this module.
 """
 from __future__ import annotations
 
 import ast
 import importlib
-from typing import Iterator, List, Sequence, Tuple, Type
+import os
+from typing import Dict, Iterator, Sequence, Tuple, Type
 
-from . import buffers, plain, program, rules
-from .command_line import version
-from .facts import Finding
-from .reports import Entry
-from .used.classes import UNUSED
-from .writing import line, visible
+from .base.model import NEW, Finding
+from .base.safe import line, visible
+from .base.words import danger, outcome, rule_of
+from .engine.program import ProgramError, located
+from .options import version
+from .stages.buffer import Judge, NotJudged, Opened
+from .stages.pipeline import fails_strictly
 
 Violation = Tuple[int, int, str, Type["Plugin"]]
+NOT_READ = "RLT203"
+# The judge of each process, by its number: flake8 forks some.
+JUDGES: Dict[int, Judge] = {}
 
 
 class Plugin:
@@ -34,56 +38,37 @@ class Plugin:
     def parse_options(cls, options: object) -> None:
         """Raises flake8's ExecutionError if relint isn't there, can't be run or isn't relint; `options` isn't used."""
         try:
-            program.program()
-        except program.ProgramError as error:
+            located("relint")
+        except ProgramError as error:
             failure = importlib.import_module("flake8.exceptions").ExecutionError
             raise failure(f"relint: {visible(str(error))}") from error
 
     def run(self) -> Iterator[Violation]:
-        """Yields the violations; only one, with the code of NOT_READ and the reason, if relint has no answer.
+        """Yields the violations: line from 1, column from 0, text, and this class; without a place, line 1 and column 0.
 
-        A violation is its line (from 1), its column (from 0), its text, and this class; without a place, line 1, column 0.
-        Yields none if the configuration leaves the file out.
+        Yields none for a file that the configuration leaves out, and NOT_READ with the reason if there is no answer.
         """
         # (an error that is raised here stops flake8's own processes for good)
+        judge = JUDGES.setdefault(os.getpid(), Judge(has_own_comments=True))
         try:
-            found = buffers.judged(self._text, self._path, most=0)
-        except buffers.NotJudged as error:
-            yield 1, 0, line(f"RLT{rules.NOT_READ} not judged: {error}"), Plugin
+            opened = judge.judged(self._text, self._path)
+        except NotJudged as error:
+            yield 1, 0, line(f"{NOT_READ} not judged: {error}"), Plugin
             return
-        for entry, words in messages(found) if found else []:
-            place = entry.place
-            yield place.line if place else 1, place.column - 1 if place else 0, line(f"{rules.code(entry)} {words}"), Plugin
+        for it, words in violations(opened) if opened else []:
+            yield it.place.line, it.place.column - 1, line(f"{rule_of(it)} {words}"), Plugin
+        for why in opened.lost if opened else ():
+            yield 1, 0, line(f"{NOT_READ} not judged: {why}"), Plugin
 
 
-def messages(found: buffers.Judged) -> List[Tuple[Entry, str]]:
-    """Returns the entries that are violations, in the order of their places, each with what is said of it.
+def violations(opened: Opened) -> Iterator[Tuple[Finding, str]]:
+    """Yields what is a violation, with what is said of it: findings, and what is said of the file as a whole.
 
-    Violations are the findings that a use reaches, or whose uses aren't known, and what wasn't read or judged in time; under
-    `strict` also the findings that no use reaches, and what is undecided or not analysed. An entry that is only warned of is
-    no violation. An entry without a place comes first.
+    With `strict` in the configuration, what isn't decided or judged is one too.
     """
-    warned = {id(it) for it in found.given.warned}
-    reached = [(it.judged, _words(it.judged)) for it in found.looked.reached if id(it.entry) not in warned]
-    unused = [(it.entry, _unused(found, it)) for it in found.looked.unused if found.given.strict]
-    others = [(it, _words(it)) for it in buffers.named_entries(found)]
-    return sorted([*reached, *unused, *others], key=_place)
-
-
-def _unused(found: buffers.Judged, one: Finding) -> str:
-    """Returns what is said of `one`, a finding that no use reaches: its call, UNUSED, and its classes in both modes.
-
-    They are the class in the mode of the report, and the worst one under the uses.
-    """
-    return f"{one.entry.call}: {UNUSED}: {one.used_words(found.given.compile_as)}"
-
-
-def _words(entry: Entry) -> str:
-    """Returns what is said of an entry: its outcome in plain words, with its call in front if it has one."""
-    return f"{entry.call}: {plain.outcome_words(entry)}" if entry.call else plain.outcome_words(entry)
-
-
-def _place(one: Tuple[Entry, str]) -> Tuple[int, int]:
-    """Returns the line and the column of an entry, to sort by; (0, 0) if it has no place."""
-    place = one[0].place
-    return (place.line, place.column) if place else (0, 0)
+    run = opened.run
+    for it in opened.findings:
+        if it.state == NEW:
+            yield it, danger(it, run.steps_a_second)
+        elif it.entry.call is None or run.options.strict and fails_strictly(it, run.options):
+            yield it, outcome(it)

@@ -1,33 +1,55 @@
-"""Asks git which files it tracks, without running or using anything of a repository except its index.
+"""Asks git what it tracks and what an earlier commit holds, without running or using anything else of a repository.
 
 The configuration of a repository can name programs that git runs, and a folder of the work tree can pose as a repository. So
 the top of the work tree is found here, by its entry `.git`; git is asked at that top, and has to take it for the top as well.
+An earlier commit is read from git's objects alone: nothing is checked out, and no hook, filter or driver runs.
 """
 from __future__ import annotations
 
+import importlib
 import os
-import subprocess
-from typing import Dict, List
+import select
+import time
+from typing import Dict, List, NamedTuple, Optional, Tuple
 
-from .program import on_path
+from .engine.program import READ_AT_A_TIME, ProgramError, Running, on_path, output_of
 
-SECONDS = 120
+SECONDS, SECONDS_OF_A_FIND = 60.0, 10.0
+MOST_OUTPUT, MOST_OBJECT = 1 << 28, 4_194_304
 # (an empty value turns the monitor off in each version of git; the versions before 2.36 would run a command named `false`)
 SETTINGS = (
     "safe.bareRepository=explicit", "core.fsmonitor=", "core.hooksPath=/dev/null", "core.pager=cat", "protocol.allow=never",
+    "core.attributesFile=/dev/null", "core.commitGraph=false",
 )
 VARIABLES = {
     "GIT_OPTIONAL_LOCKS": "0",
     "GIT_TERMINAL_PROMPT": "0",
     "GIT_NO_LAZY_FETCH": "1",
+    "GIT_NO_REPLACE_OBJECTS": "1",
     "GIT_ALLOW_PROTOCOL": "none",
     "LC_ALL": "C",
 }
 SAFE_DIRECTORY = "git config --global --add safe.directory"
+FILE, EXECUTABLE, LINK, SUBMODULE = "100644", "100755", "120000", "160000"
 
 
 class GitError(Exception):
-    """Raised if git can't say which files it tracks; the message says why, in one line."""
+    """Raised if git can't say what it is asked; the message says why, in one line."""
+
+
+class Tracked(NamedTuple):
+    """A path that git tracks, with its mode: FILE, EXECUTABLE, LINK or SUBMODULE."""
+
+    path: str
+    mode: str
+
+
+class Blob(NamedTuple):
+    """A file of a commit: its mode, the name of its object, and its size in bytes."""
+
+    mode: str
+    name: str
+    size: int
 
 
 def environment() -> Dict[str, str]:
@@ -36,20 +58,23 @@ def environment() -> Dict[str, str]:
     return {**kept, **VARIABLES}
 
 
-def tracked(path: str) -> List[str]:
-    """Returns the paths that git tracks at a path or below it, in git's order; none if it tracks none there.
+def tracked(path: str) -> List[Tracked]:
+    """Returns what git tracks at a path or below it, in git's order.
 
-    They are relative to the current folder if `path` is, otherwise absolute. Those below "." have no "./" in front. Raises
-    GitError if git can't list them, for instance because `path` is in no work tree.
+    The paths are relative to the current folder if `path` is, otherwise absolute. Those below "." have no "./" in front.
+    Raises GitError if git can't list them, for instance because `path` is in no work tree.
     """
     folder, name = (path, "") if os.path.isdir(path) else os.path.split(path)
     here = os.path.realpath(folder or ".")
     top = work_tree(here)
     inside = os.path.relpath(here, top)
-    listed = _run(top, "ls-files", "-z", "--", os.path.join(inside, name) if name else inside)
+    listed = _run(top, "ls-files", "-s", "-z", "--", os.path.join(inside, name) if name else inside)
     front = "" if folder in ("", ".") else os.path.join(folder, "")
     below = 0 if inside == "." else len(inside) + 1
-    return [front + it[below:] for it in listed.split("\0") if it]
+    rows = (it.partition("\t") for it in listed.split("\0") if it)
+    # (a path with a conflict is there several times)
+    modes = {whole[below:]: about[:6] for about, _, whole in rows}
+    return [Tracked(front + it, mode) for it, mode in modes.items()]
 
 
 def work_tree(folder: str) -> str:
@@ -62,10 +87,10 @@ def work_tree(folder: str) -> str:
     if not tops:
         raise GitError(f"{folder} is in no work tree of git")
     top, own = tops[0], os.path.join(tops[0], ".git")
-    said = _run(top, "rev-parse", "--show-toplevel", "--absolute-git-dir")
+    said = _run(top, "rev-parse", "--show-toplevel", "--absolute-git-dir", seconds=SECONDS_OF_A_FIND)
     front = f"{top}\n"
     kept = said[len(front):-1]
-    if not said.startswith(front) or (kept != own and not _is_pointer(own)):
+    if not said.startswith(front) or (kept != own and not (os.path.islink(own) or os.path.isfile(own))):
         raise GitError(f"git doesn't take {top} for the top of its work tree, though .git is there")
     if kept != own and _poses(kept, tops[-1]):
         raise GitError(f"{own} points to {kept}, which lies in the work tree")
@@ -73,53 +98,146 @@ def work_tree(folder: str) -> str:
 
 
 def _above(folder: str) -> List[str]:
-    """Returns the folder, an absolute path, and all folders above it, the nearest first."""
+    """The folder, an absolute path, and all folders above it, the nearest first."""
     found = [folder]
     while os.path.dirname(found[-1]) != found[-1]:
         found.append(os.path.dirname(found[-1]))
     return found
 
 
-def _is_pointer(entry: str) -> bool:
-    """Returns whether the path `entry`, a `.git`, is a file or a link, which only says where the repository is."""
-    return os.path.islink(entry) or os.path.isfile(entry)
-
-
 def _poses(repository: str, outermost: str) -> bool:
-    """Returns whether a repository is the folder `outermost` or lies in it, and no part of its path from there is `.git`."""
+    """Whether a repository is the folder `outermost` or lies in it, and no part of its path from there is `.git`."""
     inside = os.path.relpath(repository, outermost).split(os.sep)
     return inside[0] != os.pardir and ".git" not in inside
 
 
-def _run(top: str, *words: str) -> str:
-    """Runs git with these words in the folder `top`, with SETTINGS and `environment`, and returns its standard output.
-
-    Raises GitError if git isn't on the PATH, can't be run, ends with a status other than 0, or takes longer than SECONDS.
-    """
+def _words(top: str, *words: str) -> List[str]:
+    """The words of a command of git in the folder `top`. Raises GitError if git isn't there."""
     git = on_path("git")
     if git is None:
         raise GitError("git isn't on the PATH")
     settings = [it for setting in SETTINGS for it in ("-c", setting)]
-    whole = [git, *settings, "--no-pager", "--literal-pathspecs", "-C", top, *words]
+    return [git, *settings, "--no-pager", "--literal-pathspecs", "-C", top, *words]
+
+
+def _run(top: str, *words: str, seconds: float = SECONDS) -> str:
+    """Runs git with these words in the folder `top`, and returns its output. Raises GitError if it fails or takes too long."""
+    whole = _words(top, *words)
     try:
-        ran = subprocess.run(whole, stdin=subprocess.DEVNULL, stdout=subprocess.PIPE, stderr=subprocess.PIPE,
-                             env=environment(), timeout=SECONDS)
-    except subprocess.TimeoutExpired as error:
-        raise GitError(f"git took more than {SECONDS} s in {top}") from error
-    except OSError as error:
-        raise GitError(f"git can't be run: {error.strerror or error}") from error
-    if ran.returncode != 0:
-        raise GitError(_reason(top, ran.stderr.decode("utf-8", "replace")))
-    return os.fsdecode(ran.stdout)
+        status, said = output_of(whole, seconds, MOST_OUTPUT, environment())
+        if status != 0:
+            asked = ["/bin/sh", "-c", 'exec "$@" 2>&1 >/dev/null', "sh", *whole]
+            _, errors = output_of(asked, SECONDS, MOST_OUTPUT, environment())
+            raise GitError(_reason(top, errors.decode("utf-8", "replace")))
+    except ProgramError as error:
+        raise GitError(f"{error} (in {top})") from error
+    return os.fsdecode(said)
 
 
 def _reason(top: str, said: str) -> str:
-    """Returns a line that says why git refused in the folder `top`; `said` is what it wrote to standard error.
-
-    If another user owns the folder, the line says how to trust it; otherwise it is the first line of `said` that isn't blank,
-    or says that there is none.
-    """
+    """A line that says why git refused in the folder `top`; `said` is what it wrote to standard error."""
     if "dubious ownership" in said or "unsafe repository" in said:
         return f"another user owns {top} (dubious ownership); if you trust that user: {SAFE_DIRECTORY} {top}"
     lines = [it for it in said.splitlines() if it.strip()]
-    return lines[0] if lines else f"git gave no reason in {top}"
+    return lines[0][:500] if lines else f"git gave no reason in {top}"
+
+
+class Earlier:
+    """An earlier commit, read from git's objects. `top` is the top of the work tree, and `name` the name of the commit.
+
+    `close` ends the process that reads objects.
+    """
+
+    def __init__(self, ref: str, folder: str = ".") -> None:
+        """Finds the commit that `ref` names in the work tree around a folder. Raises GitError if there is none."""
+        self.top = work_tree(os.path.realpath(folder))
+        try:
+            self.name = _run(self.top, "rev-parse", "--verify", "--end-of-options", f"{ref}^{{commit}}").strip()
+        except GitError as error:
+            raise GitError(f"{ref} is no commit here: {error} (git fetch brings more of them)") from error
+        self._files: Optional[Dict[str, Blob]] = None
+        self._reader: Optional[Running] = None
+
+    def files(self) -> Dict[str, Blob]:
+        """Returns the files of the commit by their paths below `top`; links and submodules aren't among them.
+
+        Raises GitError if git can't list them.
+        """
+        if self._files is None:
+            self._files = {}
+            for row in _run(self.top, "ls-tree", "-r", "-z", "-l", "--full-tree", self.name).split("\0"):
+                about, _, path = row.partition("\t")
+                mode, kind, name, size = about.split() if path else ("", "", "", "")
+                if kind == "blob" and mode in (FILE, EXECUTABLE) and size.isdigit():
+                    self._files[path] = Blob(mode, name, int(size))
+        return self._files
+
+    def inside(self, path: str) -> Optional[str]:
+        """Returns the path below `top` of a path of the work tree, or None if it lies outside; the last name may be a link."""
+        above, name = os.path.split(os.path.abspath(path))
+        found = os.path.relpath(os.path.join(os.path.realpath(above), name), self.top)
+        return None if found.split(os.sep)[0] == os.pardir else found
+
+    def data(self, path: str) -> Optional[bytes]:
+        """Returns the bytes that a file of the work tree had in the commit, or None if it wasn't there or is too large.
+
+        Raises GitError if git can't say it.
+        """
+        inside = self.inside(path)
+        blob = self.files().get(inside) if inside is not None else None
+        return self.read(blob) if blob is not None and blob.size <= MOST_OBJECT else None
+
+    def is_same(self, blob: Blob, data: bytes) -> bool:
+        """Returns whether a file of the commit has these bytes; its object isn't read for that."""
+        hashlib = importlib.import_module("hashlib")
+        made = hashlib.sha1 if len(blob.name) == 40 else hashlib.sha256
+        return blob.size == len(data) and str(made(b"blob %d\0" % len(data) + data).hexdigest()) == blob.name
+
+    def read(self, blob: Blob) -> bytes:
+        """Returns the bytes of a file of the commit, of at most MOST_OBJECT bytes. Raises GitError if git can't give them."""
+        if self._reader is None:
+            words = _words(self.top, "cat-file", "--batch")
+            try:
+                self._reader = Running(words, has_input=True, environment=environment())
+            except ProgramError as error:
+                raise GitError(str(error)) from error
+        os.write(self._reader.into, blob.name.encode("ascii") + b"\n")
+        head, data = self._line()
+        words = head.split()
+        if words[:2] != [blob.name, "blob"] or not words[2].isdigit() or int(words[2]) > MOST_OBJECT:
+            self.close()
+            raise GitError(f"git can't read the object {blob.name}")
+        return self._rest(data, int(words[2]) + 1)[:-1]
+
+    def _line(self) -> Tuple[str, bytes]:
+        """The first line of git's answer, and what came behind it."""
+        found = b""
+        while b"\n" not in found:
+            found += self._part()
+        head, _, rest = found.partition(b"\n")
+        return head.decode("ascii", "replace"), rest
+
+    def _rest(self, begun: bytes, size: int) -> bytes:
+        """The bytes that git writes, of which some have come, until there are as many as `size`."""
+        parts, left = [begun], size - len(begun)
+        while left > 0:
+            parts.append(self._part())
+            left -= len(parts[-1])
+        return b"".join(parts)
+
+    def _part(self) -> bytes:
+        """Some bytes that git writes. Raises GitError if none come in time."""
+        assert self._reader is not None
+        until = time.monotonic() + SECONDS
+        ready = select.select([self._reader.out], [], [], max(0.0, until - time.monotonic()))[0]
+        part = os.read(self._reader.out, READ_AT_A_TIME) if ready else b""
+        if not part:
+            self.close()
+            raise GitError("git ended, or took too long, while it read an object")
+        return part
+
+    def close(self) -> None:
+        """Ends the process that reads objects."""
+        if self._reader is not None:
+            self._reader.end()
+            self._reader = None

@@ -1,88 +1,59 @@
-"""The plugin of python-lsp-server: findings while you type, what a pattern costs under the cursor, and fixes.
+"""The plugin of python-lsp-server: findings while you type, what a pattern costs under the cursor, and actions.
 
-A buffer is judged once, by the thread that asks for its findings, one buffer at a time. What the cursor and the menu of fixes
-show is what was found for exactly the text that is there; else they show nothing. Only python-lsp-server imports this module.
-
-A document is the server's object for a buffer. Positions, ranges, diagnostics and actions are values of the language server
-protocol: a position has `line` and `character`, which count from 0, the latter in units of UTF-16; a range has a `start` and
-an `end`, which isn't in it.
+That server has threads, so texts are judged by a new process, which has none; it answers as `rlt server` does. Only
+python-lsp-server imports this module. A document is the server's object for an open text.
 """
 from __future__ import annotations
 
 import importlib
+import json
+import os
+import subprocess
+import sys
 import threading
-from dataclasses import dataclass
-from typing import Any, Dict, Iterator, List, Optional, Tuple
+from typing import Any, Dict, List, Optional
 
-from . import buffers, plain, rules
-from .facts import Finding, site_of
-from .reports import Entry, Place
-from .sites import Source
-from .used.classes import UNUSED
-from .writing import visible
+from .base.words import explained
+from .server import ACCEPT, EXPLAIN, REASON, hover_of
 
-ERROR, WARNING, INFORMATION, HINT = 1, 2, 3, 4
-# For this many of the worst findings, the growth and a fix are shown too. For the others, only the class is shown.
-MOST_IN_FULL = 20
-MOST_BUFFERS = 8
 NAME = "relint"
+CODE = "import sys; sys.path.insert(0, sys.argv[1]); from relint.server import answer_lines; answer_lines()"
+PACKAGES = os.path.dirname(os.path.dirname(os.path.realpath(__file__)))
+ENDED = "the process that judges it ended"
 
 
-@dataclass(frozen=True)
-class Kept:
-    """What was found for the text `text`.
-
-    `found` is None if there is no answer, and then `failure` says why; or if the configuration leaves the file out, and then
-    `failure` is "".
-    """
-
-    text: str
-    found: Optional[buffers.Judged]
-    failure: str = ""
-
-
-class Buffers:
-    """Judges buffers, and keeps what was found for the MOST_BUFFERS that were judged last."""
+class Asked:
+    """A process that answers, one question at a time; it is started for the first one, and anew after it ended."""
 
     def __init__(self) -> None:
-        """Begins without buffers."""
-        self._kept: Dict[str, Kept] = {}
+        """Begins without a process."""
+        self._process: Optional["subprocess.Popen[bytes]"] = None
         self._lock = threading.Lock()
 
-    def judged(self, document: Any, anew: bool) -> Kept:
-        """Returns what is found for the text that a document has once all earlier requests are done.
+    def ask(self, *question: Any) -> Any:
+        """Returns the answer to a question: the name of a method of `server.Editor`, and its arguments.
 
-        A text that was judged is judged again only with `anew`.
+        Raises RuntimeError, with the reason, if there is none.
         """
         with self._lock:
-            text = str(document.source)
-            kept = self._kept.get(document.uri)
-            if kept is None or kept.text != text or anew:
-                kept = _judged(text, str(document.path))
-                self._kept.pop(document.uri, None)
-                self._kept[document.uri] = kept
-                for it in list(self._kept)[:-MOST_BUFFERS]:
-                    del self._kept[it]
-            return kept
-
-    def known(self, document: Any) -> Optional[buffers.Judged]:
-        """Returns what was found for the present text of a document, without waiting.
-
-        Returns None if that text wasn't judged yet, couldn't be, or is left out by the configuration.
-        """
-        kept = self._kept.get(document.uri)
-        return kept.found if kept is not None and kept.text == document.source else None
+            if self._process is None or self._process.poll() is not None:
+                words, pipe = [sys.executable, "-I", "-B", "-c", CODE, PACKAGES], subprocess.PIPE
+                self._process = subprocess.Popen(words, stdin=pipe, stdout=pipe, stderr=subprocess.DEVNULL)
+            assert self._process.stdin is not None and self._process.stdout is not None
+            try:
+                self._process.stdin.write(json.dumps(question).encode("ascii") + b"\n")
+                self._process.stdin.flush()
+                said, why = json.loads(self._process.stdout.readline())
+            except (OSError, ValueError) as error:
+                self._process.kill()
+                self._process.wait()
+                raise RuntimeError(ENDED) from error
+        if why:
+            raise RuntimeError(why)
+        return said
 
 
-BUFFERS = Buffers()
-
-
-def _judged(text: str, path: str) -> Kept:
-    """What is found for a text, as the content of the file `path`, or why there is no answer."""
-    try:
-        return Kept(text, buffers.judged(text, path, MOST_IN_FULL))
-    except buffers.NotJudged as error:
-        return Kept(text, None, str(error))
+ASKED = Asked()
 
 
 def pylsp_settings(config: Any) -> Dict[str, Any]:
@@ -91,157 +62,60 @@ def pylsp_settings(config: Any) -> Dict[str, Any]:
 
 
 def pylsp_lint(config: Any, workspace: Any, document: Any, is_saved: bool) -> List[Dict[str, Any]]:
-    """Returns the diagnostics of a document; if it can't be judged, one at its start that says why; none if it is left out.
-
-    With `is_saved`, it is judged anew even if its text was judged before. `config` and `workspace` aren't used.
-    """
-    kept = BUFFERS.judged(document, bool(is_saved))
-    if kept.failure:
+    """Returns the diagnostics of a document, judged anew with `is_saved`. `config` and `workspace` aren't used."""
+    if is_saved:
+        ASKED.ask("forget")
+    try:
+        found: List[Dict[str, Any]] = ASKED.ask("diagnostics", document.uri, document.source)
+        return found
+    except RuntimeError as error:
         start = {"line": 0, "character": 0}
-        return [_diagnostic({"start": start, "end": start}, ERROR, rules.NOT_READ, f"not judged: {kept.failure}")]
-    return list(diagnostics(kept.found)) if kept.found else []
+        return [{"range": {"start": start, "end": start}, "severity": 1, "source": "rlt", "message": f"not judged: {error}"}]
 
 
 def pylsp_hover(config: Any, workspace: Any, document: Any, position: Dict[str, int]) -> Optional[Dict[str, Any]]:
-    """Returns what is known of the pattern at a position, as a hover of the protocol.
-
-    Returns None if there is no pattern, or nothing is known of the present text. `config` and `workspace` aren't used.
-    """
-    found = BUFFERS.known(document)
-    lines = hover_lines(found, position) if found else []
-    # (as plain text, since others may have written the pattern)
-    return {"contents": {"kind": "plaintext", "value": "\n".join(lines)}} if lines else None
+    """Returns what is known of the pattern at a position, or None. `config` and `workspace` aren't used."""
+    # (as plain text, since the server doesn't tell what the client shows)
+    return hover_of(ASKED.ask("hover", document.uri, document.source, position), False)
 
 
 def pylsp_code_actions(
     config: Any, workspace: Any, document: Any, range: Dict[str, Dict[str, int]], context: Any,
 ) -> List[Dict[str, Any]]:
-    """Returns actions for the fixes of the findings in a range; none if the present text wasn't judged yet.
-
-    Advice is left out, since the calls could notice the change. `config`, `workspace` and `context` aren't used.
-    """
-    found = BUFFERS.known(document)
-    return list(actions(found, document.uri, range)) if found else []
+    """Returns the actions for the findings in a range. `config`, `workspace` and `context` aren't used."""
+    found: List[Dict[str, Any]] = ASKED.ask("actions", document.uri, document.source, range)
+    return found
 
 
-def diagnostics(found: buffers.Judged) -> Iterator[Dict[str, Any]]:
-    """Yields a diagnostic for each finding, and for entries not read or judged in time; under `strict`, for all without class.
-
-    Exponential findings are errors, and others warnings. What is only warned of, and entries without a class, are
-    informations. Findings that no use reaches are hints.
-    """
-    warned = {id(it.entry) for it in found.looked.reached} & {id(it) for it in found.given.warned}
-    for one in found.looked.reached:
-        level = INFORMATION if id(one.entry) in warned else ERROR if one.judged.kind == "exponential" else WARNING
-        yield _diagnostic(_range_of(found, one.entry), level, rules.number(one.judged), _words(one.judged))
-    for one in found.looked.unused:
-        words = f"{one.entry.call}: {UNUSED}: {one.used_words(found.given.compile_as)}"
-        yield _diagnostic(_range_of(found, one.entry), HINT, rules.number(one.entry), words)
-    for entry in buffers.named_entries(found):
-        yield _diagnostic(_range_of(found, entry), INFORMATION, rules.number(entry), _words(entry))
+def pylsp_commands(config: Any, workspace: Any) -> List[str]:
+    """Returns the names of the commands. `config` and `workspace` aren't used."""
+    return [ACCEPT, EXPLAIN]
 
 
-def _words(entry: Entry) -> str:
-    """The message for an entry: its call, and its class or why it has none."""
-    return visible(f"{entry.call}: {plain.outcome_words(entry)}" if entry.call else plain.outcome_words(entry))
-
-
-def _diagnostic(where: Dict[str, Any], level: int, rule: int, words: str) -> Dict[str, Any]:
-    """A diagnostic at the range `where`, with the message `words` and the code of the rule with this number.
-
-    `level` is its severity in the protocol, from ERROR (1) to HINT (4).
-    """
-    return {"source": NAME, "range": where, "severity": level, "code": f"RLT{rule}", "message": words}
-
-
-def hover_lines(found: buffers.Judged, position: Dict[str, int]) -> List[str]:
-    """Returns lines about the first pattern at a position: class, growth, loops at fault, and offers; none without one."""
-    findings = {id(it.entry): it for it in found.looked.every()}
-    for entry in found.given.report.entries:
-        if entry.call and _holds(_range_of(found, entry), position):
-            one = findings.get(id(entry))
-            return [visible(it) for it in (_finding_lines(found, one) if one else _entry_lines(entry))]
-    return []
-
-
-def _entry_lines(entry: Entry) -> List[str]:
-    """The lines for an entry that isn't a finding: its call, and its class or why it has none."""
-    return [f"relint: {entry.call}: {plain.outcome_words(entry)}"]
-
-
-def _finding_lines(found: buffers.Judged, one: Finding) -> List[str]:
-    """The lines for a finding: its class, its growth, its class under the uses, the loops at fault, and the offers.
-
-    What isn't known has no line.
-    """
-    verdict = one.judged.verdict()
-    head = f"relint: {one.judged.call}: {plain.class_word(verdict) if verdict else ''} [{rules.code(one.judged)}]"
-    lines = [head, one.words(), one.used_words(found.given.compile_as), one.fault_words()]
-    lines += [f"{it.kind}: {it.shown()}   {plain.class_word(it.verdict)}; {it.words}" for it in one.offers]
-    return [it for it in lines if it]
-
-
-def actions(found: buffers.Judged, uri: str, wanted: Dict[str, Dict[str, int]]) -> Iterator[Dict[str, Any]]:
-    """Yields an action for each fix of a finding that the range `wanted` touches; it replaces the literals of the pattern.
-
-    Only fixes after which the calls see the same spans and groups (tier "a") are yielded. `uri` is the document's.
-    """
-    for one in found.looked.reached:
-        where = _range_of(found, one.entry)
-        if not _touches(where, wanted):
-            continue
-        for offer in one.offers:
-            if offer.kind == "fix" and offer.tier == "a":
-                yield {
-                    "title": f"relint: {visible(offer.shown())}   {plain.class_word(offer.verdict)}; {offer.words}",
-                    "kind": "quickfix",
-                    "edit": {"changes": {uri: [{"range": where, "newText": offer.literal}]}},
-                }
-
-
-def _range_of(found: buffers.Judged, entry: Entry) -> Dict[str, Dict[str, int]]:
-    """The range of an entry's literals; an empty range at its place, or else the start of the file, if they aren't found.
-
-    If the source can't be read, the range is empty at the start of the line.
-    """
-    source, site = site_of(found.sources, entry)
-    place = entry.place or Place(1, 1)
-    if source is None:
-        start = {"line": place.line - 1, "character": 0}
-        return {"start": start, "end": start}
-    first = source.offset(place)
-    return {"start": _position(source, first), "end": _position(source, site.literals[-1].end if site else first)}
-
-
-def _position(source: Source, offset: int) -> Dict[str, int]:
-    """The position of an offset in the text of a source, as the protocol counts it."""
-    place = source.place(offset)
-    front = source.text[offset - place.column + 1:offset]
-    return {"line": place.line - 1, "character": len(front.encode("utf-16-le", "surrogatepass")) // 2}
-
-
-def _key(position: Dict[str, int]) -> Tuple[int, int]:
-    """A position as a pair, which can be compared."""
-    return position["line"], position["character"]
-
-
-def _holds(where: Dict[str, Dict[str, int]], position: Dict[str, int]) -> bool:
-    """Whether a position is in a range, whose end isn't in it."""
-    return _key(where["start"]) <= _key(position) < _key(where["end"])
-
-
-def _touches(where: Dict[str, Dict[str, int]], wanted: Dict[str, Dict[str, int]]) -> bool:
-    """Whether two ranges have a position in common; here their ends count too."""
-    return _key(where["start"]) <= _key(wanted["end"]) and _key(wanted["start"]) <= _key(where["end"])
+def pylsp_execute_command(config: Any, workspace: Any, command: str, arguments: List[Any]) -> Optional[str]:
+    """Does a command, and shows and returns what is said of it; None for one of another plugin. `config` isn't used."""
+    if command == EXPLAIN:
+        said = explained(str(arguments[0])) or ""
+    elif command == ACCEPT:
+        uri, line, column, *reason = arguments
+        try:
+            text = workspace.get_document(uri).source
+            said = ASKED.ask("accept", uri, text, [line, column], str((reason or [REASON])[0] or REASON))
+        except RuntimeError as error:
+            said = f"not accepted: {error}"
+    else:
+        return None
+    workspace.show_message(f"rlt: {said}")
+    return said
 
 
 def _announce() -> None:
-    """Marks the four functions that the server calls as its hooks. Raises ImportError if python-lsp-server isn't installed.
+    """Marks the functions that the server calls as its hooks. Raises ImportError if python-lsp-server isn't installed.
 
     The server takes the first hover that isn't None, so `pylsp_hover` is marked to be asked before all others.
     """
     mark = importlib.import_module("pylsp").hookimpl
-    for it in (pylsp_settings, pylsp_lint, pylsp_code_actions):
+    for it in (pylsp_settings, pylsp_lint, pylsp_code_actions, pylsp_commands, pylsp_execute_command):
         mark(it)
     mark(tryfirst=True)(pylsp_hover)
 

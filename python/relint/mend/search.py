@@ -1,155 +1,102 @@
-"""Searches for a cure: rules propose patterns, and relint and the comparison of spans judge them.
+"""Searches for cures of a pattern: rules propose patterns, and relint-ask judges them.
 
-The *class* of a pattern says how fast the time of a match can grow with the length of the text: a degree, or exponential. It
-is a `Verdict` of relint, for one of the modes fullmatch, match and search. A *cure* is a pattern of a lower class that matches
-the same texts; judge.py says what its *tier* is.
+A *cure* matches the same texts and has a lower class. What else has to be the same is what the code sees: only whether there
+is a match, spans, or groups too. Proposals first run beside the pattern on a few texts, so that relint-ask is asked only about
+those that may be right.
 """
 from __future__ import annotations
 
 import heapq
 import itertools
 import os
+import random
 import re
-import sys
 import time
-from dataclasses import dataclass, field
+from dataclasses import dataclass, replace
 from difflib import SequenceMatcher
-from typing import Dict, Iterator, List, NamedTuple, Optional, Sequence, Set, Tuple
+from typing import Any, Dict, FrozenSet, Iterator, List, Mapping, NamedTuple, Optional, Sequence, Set, Tuple
 
-from ..flags import front
-from ..program import not_started
-from ..reports import Verdict
-from ..verdicts import EXPONENTIAL, Order, degree, order
-from . import notes
-from .asking import Asker, Text
-from .judge import Judge, Judgement, TIERS
-from .layout import with_layout
-from .rules import LINE_ANCHOR, RULES, Rule
-from .same import How
-from .samples import Sampler
-from .tree import Chars, Node, Pattern, Repeat, Unreadable, children, normal, read, read_both, with_child
-from .trial import Trial, tried
-from .write import Unwritable, body, kept, plain
+from ..base.model import MODES, Text, Verdict
+from ..base.words import quoted
+from ..engine.ask import Asker, as_text, letters
+from ..engine.engine import ReportError, read_text
+from ..trials.trial import GROUPS_TOO, OTHER, SPANS_TOO, TEXTS_ALONE, Trial
+from . import nodes
+from .nodes import (
+    CHARS, CHOICE, EMPTY, GUARD, REPEAT, ROW, Alphabet, Node, Pattern, Unreadable, again, chars, guard, made, positions, put,
+    row,
+)
+from .rules import RULES, WHOLE, Path, Rule, edge, endless_runs, signs, with_edge, word_free
 
-# The way from the root of a tree to a node: for each step, the number of the child, from 0.
-Path = Tuple[int, ...]
-# The class of a tree, and how many of its innermost loops are exponential by themselves (0 if the original isn't exponential).
-# A better tree has less.
-Worth = Tuple[Order, int]
-
-LONGEST = 4000
-BATCH = 60
-MOST_PROPOSALS, MOST_MADE = 240, 2000
-GOOD, FAIR = degree(1), degree(2)
-MORE_TRIES, MOST_EVEN = 10, 8
-# A new group counts as this many new characters, because it is as hard to read.
-GROUP_WEIGHT = 3
-
-
-SAYINGS = {it.name: it.says for it in (*RULES, LINE_ANCHOR)}
+REPEATED = frozenset(("findall", "finditer", "split", "sub", "subn"))
+EVERY_METHOD = frozenset(("match", "search", "fullmatch")) | REPEATED
+# How many proposals are made for a tree and asked at once, how many comparisons, trees and texts a search takes.
+BATCH, MOST_PROPOSALS, MOST_MADE, LONGEST = 60, 240, 2000, 4000
+MOST_TRIES, MOST_STEPS, MOST_TREES, MOST_ASKED = 50, 5, 24, 3000
+SIEVED, TRIED, LONGEST_TEXT, MOST_PARTS, MOST_MATCHED = 150, 1000, 80, 2000, 250_000
+MORE_TRIES, MOST_EVEN, MOST_ADVICE = 10, 8, 4
+# A degree less is worth so many characters more, a new group as hard to read as so many, a new escape, brackets in brackets.
+DEGREE_WEIGHT, GROUP_WEIGHT, ESCAPE_WEIGHT, NESTED_WEIGHT = 8, 3, 2, 4
+ESCAPED, NESTED = re.compile(r"\\[A-Za-z]"), re.compile(r"\)[*+?}]+\)[*+?{]")
+EXPONENTIAL, MISSED = 1_000_000, 9
 
 
 @dataclass(frozen=True)
-class Limits:
-    """The limits of a search. None of them is a time.
+class How:
+    """How code uses a pattern: by which methods, whether with a position, and what it sees ("truth", "spans" or "groups").
 
-    A search makes up to `tries` comparisons. It applies up to `steps` rules one after another, and one more for each innermost
-    exponential loop after the first. It ends once it has asked relint for the classes of `work` patterns or
-    more. At the end each cure is tried on `texts` texts with the running Python.
+    `is_read` says that it also reads the pattern or its flags. `worst` is the mode in which its class is to get lower, and
+    `max_degree` the highest degree that is no finding. `has_atomic` says that it needs a Python that knows atomic groups.
     """
 
-    tries: int = 50
-    steps: int = 3
-    work: int = 3000
-    texts: int = 1000
+    methods: FrozenSet[str] = EVERY_METHOD
+    flags: int = 0
+    position: bool = True
+    sees: str = "groups"
+    is_read: bool = False
+    worst: str = "search"
+    max_degree: int = 2
+    has_atomic: bool = False
+
+    def modes(self) -> Tuple[str, ...]:
+        """Returns the modes of the methods and the worst one, which comes first."""
+        found = {it if it in MODES else "search" for it in self.methods}
+        return (self.worst, *(it for it in MODES if it in found and it != self.worst))
+
+    def only_truth(self) -> bool:
+        """Returns whether the code sees only whether there is a match, gives no position, and asks for one match only."""
+        return self.sees == "truth" and not self.position and not self.methods & REPEATED
+
+    def goal(self) -> str:
+        """Returns what a fix has to be in trials, as one of the words of `Trial`."""
+        return TEXTS_ALONE if self.only_truth() else GROUPS_TOO if self.sees == "groups" else SPANS_TOO
+
+    def calls(self) -> List[str]:
+        """Returns the calls to try."""
+        found = [it for it in MODES if it in self.modes()]
+        return found + (["finditer"] if self.methods & REPEATED else []) + (["position"] if self.position else [])
 
 
 @dataclass(frozen=True)
 class Cure:
-    """A pattern that matches the same texts as the original and has a lower class in `mode`.
+    """A pattern of a lower class, and what is proved of it.
 
-    `verdict` is its class, and `before` the class of the original. `steps` are the names of the rules that led to the cure, in
-    order. `judgement` says how it is known that spans and groups are the same, or what differs.
+    If `differs` is "", the code can't notice it; otherwise it says in a clause what the code may see. `rank` orders these:
+    groups before positions, spans, and texts. `verdict` is its class in the worst mode, and `top` the rank of its worst class.
     """
 
     pattern: Text
     verdict: Verdict
-    tier: str
-    before: Verdict
+    differs: str = ""
+    rank: int = 0
     steps: Tuple[str, ...] = ()
-    judgement: Judgement = Judgement("a")
-    mode: str = "search"
-
-    def changes(self) -> str:
-        """Returns a sentence for each rule that was applied, once each: what it changed, and why that loses nothing.
-
-        Returns "" if no rule was applied.
-        """
-        return " ".join(dict.fromkeys(SAYINGS[it] for it in self.steps if SAYINGS.get(it)))
-
-    def words(self) -> str:
-        """Returns what is known of the cure, in words: what is the same, how that is known, and what differs on which text."""
-        judged = self.judgement
-        if self.tier == "a":
-            said = f"same texts (proved), same spans and groups ({judged.known()})"
-            return said if judged.position else said + ", where no position is given to a call"
-        if self.tier == "b":
-            said = f"same texts (proved), same spans ({judged.known()}), {judged.why}"
-        else:
-            said = f"same texts (proved), {judged.why}: only advice"
-        if judged.text is None:
-            return said
-        return f"{said} on {judged.text!r}" + (f" from position {judged.start}" if judged.start else "")
+    hard_to_read: bool = False
+    top: int = 0
+    is_proved: bool = True
 
 
-@dataclass(frozen=True)
-class Miss:
-    """A pattern of a lower class that isn't known to match the same texts as the original.
-
-    `verdict` is its class. Only the original matches `left`, and only the proposal matches `right`; a text that isn't known is
-    None.
-    """
-
-    pattern: Text
-    verdict: Verdict
-    left: Optional[Text]
-    right: Optional[Text]
-
-
-@dataclass
-class Outcome:
-    """What a search found. The cures are in the order of their tiers, the best first, with at most one of each tier.
-
-    `before` is the class of the original in `mode`, or None if relint didn't give one. `why` says why there is no cure, and is
-    "" if there is one. `tries` counts the proposals that were compared, and `runs` the runs of relint. `seconds` is the
-    time by the clock. `misses` are the proposals of a lower class that match other texts. `faults` are the texts of the loops
-    at fault. `trials` are what came of trying the cures with `re`, by their tiers. `relaxed` is a pattern whose
-    runs leave out more characters, `meant` is one with escaped dots, and `in_code` says what could be done in code instead;
-    each is None if there is nothing to suggest.
-    """
-
-    before: Optional[Verdict]
-    mode: str = "search"
-    cures: List[Cure] = field(default_factory=list)
-    why: str = ""
-    tries: int = 0
-    runs: int = 0
-    seconds: float = 0.0
-    misses: List[Miss] = field(default_factory=list)
-    faults: List[str] = field(default_factory=list)
-    trials: Dict[str, Trial] = field(default_factory=dict)
-    relaxed: Optional[Miss] = None
-    meant: Optional[Miss] = None
-    in_code: Optional[str] = None
-
-    def best(self) -> Optional[Cure]:
-        """Returns the cure of the best tier, or None if there is no cure."""
-        return self.cures[0] if self.cures else None
-
-
-@dataclass(frozen=True)
-class Proposal:
-    """A whole tree that results from one use of the rule named `rule`, with its text, and the cost of that use."""
+class Proposal(NamedTuple):
+    """A tree that a use of the rule named `rule` gives, with its text and the cost of that use."""
 
     cost: float
     rule: str
@@ -157,420 +104,599 @@ class Proposal:
     text: str
 
 
-class Queued(NamedTuple):
-    """A tree from which the search may go on. The least one comes first.
-
-    `rank` is its worth, then the number of its tier (0 for tier a), then the length of its text. `number` counts the trees in
-    the order in which they were found, so two trees are never compared themselves. `steps` are the rules that led to it.
-    """
-
-    rank: Tuple[Worth, int, int]
-    number: int
-    tree: Node
-    steps: Tuple[str, ...]
-
-
-def positions(node: Node, path: Path = ()) -> Iterator[Tuple[Path, Node]]:
-    """Yields each node after the path to it, an outer node before its inner ones. `path` is the path to `node` itself."""
-    yield path, node
-    for at, it in enumerate(children(node)):
-        yield from positions(it, (*path, at))
-
-
-def put(tree: Node, path: Path, new: Node) -> Node:
-    """Returns the tree with the node at the end of the path replaced by `new`, and simplified above it as by `with_child`."""
-    if not path:
-        return new
-    return with_child(tree, path[0], put(children(tree)[path[0]], path[1:], new))
+# What a tree is worth: its rank in the worst mode, its exponential loops, its ranks in the other modes.
+Worth = Tuple[int, int, Tuple[int, ...]]
 
 
 def distance(old: str, new: str) -> int:
-    """Returns how different two patterns look to a reader.
-
-    That is the number of edited characters, plus the number of characters by which the pattern got longer, plus GROUP_WEIGHT
-    for each opening parenthesis that the new pattern has more.
-    """
+    """Returns how different two patterns look to a reader: the characters edited and added, and what is hard to read."""
     start = len(os.path.commonprefix([old, new]))
     tail = len(os.path.commonprefix([old[start:][::-1], new[start:][::-1]]))
-    matcher = SequenceMatcher(None, old[start:len(old) - tail], new[start:len(new) - tail], autojunk=False)
-    edited = sum(max(end - at, high - low) for tag, at, end, low, high in matcher.get_opcodes() if tag != "equal")
-    groups = max(0, new.count("(") - old.count("("))
-    return edited + max(0, len(new) - len(old)) + GROUP_WEIGHT * groups
+    was, now = old[start:len(old) - tail], new[start:len(new) - tail]
+    edited = max(len(was), len(now))
+    if len(was) * len(now) <= MOST_MATCHED:
+        codes = SequenceMatcher(None, was, now, autojunk=False).get_opcodes()
+        edited = sum(max(end - at, high - low) for tag, at, end, low, high in codes if tag != "equal")
+    escapes = len(set(ESCAPED.findall(new)) - set(ESCAPED.findall(old)))
+    nested = len(NESTED.findall(new)) - len(NESTED.findall(old))
+    return (edited + max(0, len(new) - len(old)) + GROUP_WEIGHT * new_groups(old, new) + ESCAPE_WEIGHT * escapes
+            + NESTED_WEIGHT * nested)
+
+
+def new_groups(old: str, new: str) -> int:
+    """Returns how many parentheses a pattern has more."""
+    return max(0, new.count("(") - old.count("("))
+
+
+def is_hard(old: str, new: str) -> bool:
+    """Returns whether a pattern is much harder to read than the old one: twice as long, or with more than two new groups."""
+    return len(new) > 2 * len(old) + 12 or new_groups(old, new) > 2
 
 
 class Search:
-    """One search for cures of a pattern. All its trees use the alphabet of that pattern.
+    """One search for cures of a pattern, as the code uses it.
 
-    `modes` are the modes in which a cure has to match the same texts and must not have a higher class. `asked` are the
-    patterns whose class was asked for, each with its mode; `tries` counts the comparisons. `best` has the best cure so far of
-    each tier, `kept` its class and its distance from the original, and `kept_at` is the number of comparisons when a cure was
-    kept last. `seen` has all texts that were proposed. `steps` are the rules that led to the tree that is being changed.
+    `best` has the best cures so far, with what they are worth: "same" and "hard" are those that the code can't notice, and the
+    second is hard to read; "advice" is one that it may notice.
     """
 
-    def __init__(self, pattern: Text, mode: str, how: How, limits: Limits, asker: Asker,
-                 rules: Sequence[Rule] = RULES) -> None:
-        """Takes the pattern, the mode in which its class is to become lower, how the code calls the pattern, and limits.
-
-        `rules` are the rules to use; LINE_ANCHOR is used too if they are RULES.
-        """
-        self.original = pattern
-        self.flags = how.flags
-        self.mode = mode
-        self.modes = tuple(dict.fromkeys([mode, *how.modes()]))
-        self.limits = limits
-        self.asker = asker
-        self.rules = rules
-        self.judge = Judge(pattern, how)
+    def __init__(self, pattern: Text, how: How, asker: Asker, trial: Trial, deadline: float = float("inf")) -> None:
+        """Takes the pattern, its uses, who is asked, and the time of `time.monotonic` at which to end."""
+        self.original, self.how, self.asker, self.trial, self.deadline = pattern, how, asker, trial, deadline
+        self.tries = self.trees = self.advised = self.kept_at = 0
         self.asked: Set[Tuple[Text, str]] = set()
-        self.tries = 0
-        self.kept_at = 0
-        self.steps: Tuple[str, ...] = ()
-        self.best: Dict[str, Cure] = {}
-        self.kept: Dict[str, Tuple[Order, int]] = {}
-        self.misses: List[Miss] = []
-        self.faults: List[str] = []
-        self.trials: Dict[str, Trial] = {}
         self.seen: Set[str] = set()
-        self.read: Pattern
+        self.best: Dict[str, Tuple[Tuple[int, ...], Cure]] = {}
+        self.before: Worth = (0, 0, ())
+        self.pattern: Pattern
 
-    def run(self) -> Outcome:
-        """Searches, tries the cures with the running Python, and returns the outcome.
+    def run(self, suggestion: Optional[Text] = None) -> List[Cure]:
+        """Searches, and returns the cures found, the best first; `suggestion` is tried first.
 
-        Without a class of the original, or if that is undecided, nothing is searched and `why` says so.
-        Raises ProgramError if relint can't be run, or if Python can't be started for a trial.
+        Raises ProgramError if relint-ask can't be run.
         """
-        start, runs = time.monotonic(), self.asker.runs
-        before = self.asker.classes([self.original], self.flags, self.mode)[0]
-        outcome = Outcome(before, self.mode)
-        if before is None:
-            outcome.why = "relint refuses the pattern or took too long"
-        elif before.kind == "undecided":
-            outcome.why = "relint doesn't know the class of the pattern"
-        else:
-            outcome.why = self.searched(before)
-            self.try_out(outcome)
-            self.add_notes(outcome)
-        outcome.cures = sorted(self.best.values(), key=lambda it: TIERS.index(it.tier))
-        outcome.misses, outcome.trials, outcome.faults = self.misses, self.trials, self.faults
-        outcome.tries, outcome.runs, outcome.seconds = self.tries, self.asker.runs - runs, time.monotonic() - start
-        return outcome
-
-    def add_notes(self, outcome: Outcome) -> None:
-        """Adds what a person could do instead, unless the class of the original is good already.
-
-        That is `meant` and, if there is no cure, `relaxed` and `in_code`. Nothing is added if the pattern couldn't be read.
-        """
-        if order(outcome.before) <= GOOD or not hasattr(self, "read"):
-            return
-        outcome.meant = self.differing(notes.with_dots(self.read))
-        if not self.best:
-            outcome.relaxed = self.differing(notes.relaxed(self.read))
-            outcome.in_code = notes.in_code(self.read)
-
-    def differing(self, text: Optional[str]) -> Optional[Miss]:
-        """Returns the pattern `text` with texts on which it differs from the original, as far as they are known.
-
-        Returns None if `text` is None, or if its class isn't known or isn't lower.
-        """
-        if text is None:
-            return None
-        verdict = self.classes([self.encoded(text)], self.flags, self.mode)[0]
-        if verdict is None or order(verdict) >= order(self.before):
-            return None
-        found = self.asker.compare(self.original, self.encoded(text), self.flags, self.mode)
-        return Miss(self.encoded(text), verdict, found.first, found.second)
-
-    def try_out(self, outcome: Outcome) -> None:
-        """Tries each cure with the running Python, and drops a cure if a text shows that it doesn't behave as its tier says.
-
-        Does nothing if there is no cure or the limit of texts is 0. If no cure is left, `outcome.why` says so. Raises
-        ProgramError if Python can't be started for a trial.
-        """
-        if not self.best or not self.limits.texts:
-            return
-        texts = Sampler(self.read).texts(self.limits.texts)
-        for tier, cure in list(self.best.items()):
-            try:
-                trial = tried(self.original, cure.pattern, self.flags, self.judge.views(cure.judgement), texts, tier)
-            except OSError as error:
-                raise not_started(sys.executable, error) from error
-            self.trials[tier] = trial
-            if trial.differs is not None:
-                del self.best[tier]
-        if not self.best:
-            outcome.why = "what was found differs from the pattern where this Python runs both"
-
-    def searched(self, before: Verdict) -> str:
-        """Reads the pattern and searches for cures; `before` is its class.
-
-        Returns why there is no cure, or "" if there is one.
-        """
-        self.before = before
+        verdicts = self.asker.verdicts([(self.original, self.how.flags, it) for it in self.how.modes()])
+        if verdicts[0] is None or verdicts[0].rank() < 2 or len(self.original) > LONGEST:
+            return []
         try:
-            self.read = read(self.original, self.flags)
-            text = plain(self.read.tree, self.read)
-        except Unreadable as error:
-            return f"the reader of patterns doesn't take it: {error}"
-        except Unwritable as error:
-            return str(error)
-        if not self.asker.equal(self.original, self.encoded(text), self.flags, self.modes):
-            return "the pattern couldn't be written again"
-        self.walk(text)
-        if self.best:
-            return ""
-        self.faults = self.loops_at_fault()
-        return "no proposal was the same and better within the limits"
-
-    def encoded(self, text: str) -> Text:
-        """Returns the text as it is or, if the original is bytes, encoded as Latin-1."""
-        return text if isinstance(self.original, str) else text.encode("latin-1")
+            self.pattern = read_pattern(self.original, self.how.flags, self.asker)
+            text = nodes.written(self.pattern.tree, self.pattern)
+        except Unreadable:
+            return []
+        self.before = verdicts[0].rank(), 0, tuple(_rank(it) for it in verdicts[1:])
+        guilty = self.guilty([self.pattern.tree])[0]
+        self.before = self.before[0], len(guilty), self.before[2]
+        self.seen.update((text, self.pattern.text))
+        self.trial.begin(self.original, self.how.flags, self.how.calls(), Sampler(self.pattern, 7).texts(SIEVED))
+        if suggestion is not None and isinstance(suggestion, type(self.original)):
+            self.try_suggestion(as_text(suggestion))
+        self.walk(text, MOST_STEPS + max(0, len(guilty) - 1))
+        if "same" not in self.best or self.best["same"][1].top > self.how.max_degree:
+            self.stop_at_words()
+        self.miss()
+        return self.checked()
 
     def goes_on(self) -> bool:
-        """Returns whether the search is to go on: comparisons and work are left, and no cure is good enough."""
-        return self.tries < self.limits.tries and len(self.asked) < self.limits.work and not self.enough()
+        """Returns whether the search is to go on."""
+        is_in_time = time.monotonic() < self.deadline
+        return is_in_time and self.tries < MOST_TRIES and len(self.asked) < MOST_ASKED and not self.is_enough()
 
-    def classes(self, patterns: Sequence[Text], flags: int, mode: str) -> List[Optional[Verdict]]:
-        """Returns the classes that relint gives to patterns, each None if relint gives none.
-
-        Each pattern that this search didn't ask about before in this mode counts as work.
-        """
-        self.asked.update((it, mode) for it in patterns)
-        return self.asker.classes(patterns, flags, mode)
-
-    def walk(self, text: str) -> None:
-        """Goes from the original, whose text is given, to better patterns, step by step, the best ones first.
-
-        The cures that it finds are kept in `self.best`.
-        """
-        self.seen.add(text)
-        tree, most_steps = self.read.tree, self.limits.steps + self.extra()
-        worth: Worth = order(self.before), len(self.guilty(tree))
-        numbers = itertools.count()
-        queue = [Queued((worth, 0, len(text)), next(numbers), tree, ())]
-        while queue and self.goes_on():
-            best = heapq.heappop(queue)
-            self.steps = best.steps
-            for proposal, worth, tier in self.followers(best.tree, best.rank[0]):
-                steps = (*best.steps, proposal.rule)
-                if len(steps) < most_steps:
-                    rank = worth, TIERS.index(tier), len(proposal.text)
-                    heapq.heappush(queue, Queued(rank, next(numbers), proposal.tree, steps))
-
-    def loops_at_fault(self) -> List[str]:
-        """Returns the texts, in the original, of the innermost loops that are exponential by themselves.
-
-        A loop that has no text of its own, because it is in a group with flags of its own, is left out.
-        """
-        found: List[str] = []
-        for path in self.guilty(self.read.tree):
-            node = self.read.tree
-            for at in path:
-                node = children(node)[at]
-            if node.span is not None:
-                found.append(self.read.text[node.span[0]:node.span[1]])
-        return found
-
-    def enough(self) -> bool:
-        """Returns whether the cure of tier a is good enough.
-
-        It is if its class is GOOD or better, or if it is FAIR and the last MORE_TRIES comparisons brought no cure of
-        any tier that was kept. Without a cure of tier a, returns False.
-        """
-        done = self.best.get("a")
-        if done is None:
+    def is_enough(self) -> bool:
+        """Returns whether a cure is good: linear, or no finding while nothing better was found for long."""
+        if "same" not in self.best:
             return False
-        worth = order(done.verdict)
-        return worth <= GOOD or worth <= FAIR and self.tries >= self.kept_at + MORE_TRIES
+        rank = self.best["same"][1].top
+        return rank <= 1 or rank <= self.how.max_degree and self.tries >= self.kept_at + MORE_TRIES
 
-    def extra(self) -> int:
-        """Returns how many more steps are allowed.
-
-        That is one for each innermost loop that is exponential by itself, except the first; 0 if the original isn't
-        exponential.
-        """
-        return max(0, len(self.guilty(self.read.tree)) - 1)
+    def walk(self, text: str, most_steps: int) -> None:
+        """Goes from the pattern to better ones, step by step, the best ones first."""
+        numbers = itertools.count()
+        queue: List[Tuple[Worth, str, int, int, Node, Tuple[str, ...]]] = []
+        heapq.heappush(queue, (self.before, "", len(text), next(numbers), self.pattern.tree, ()))
+        while queue and self.goes_on() and self.trees < MOST_TREES:
+            worth, _, _, _, tree, steps = heapq.heappop(queue)
+            self.trees += 1
+            for found, its, kind in self.followers(tree, worth, steps):
+                if len(steps) + 1 < most_steps:
+                    heapq.heappush(queue, (its, kind, len(found.text), next(numbers), found.tree, (*steps, found.rule)))
 
     # What is proposed
 
-    def loops(self, tree: Node) -> Tuple[List[Path], List[Text]]:
-        """Returns the paths to the loops that can be judged by themselves, and a pattern for each of these loops.
+    def guilty(self, trees: Sequence[Node]) -> List[List[Path]]:
+        """Returns for each tree the paths to the loops that are exponential by themselves, without those around others."""
+        if self.before[0] < EXPONENTIAL:
+            return [[] for _ in trees]
+        loops: List[Tuple[int, Path, Text]] = []
+        marks = nodes.flag_letters(self.pattern.flags & (2 | 8 | 16 | 256))
+        front = f"(?{marks})" if marks else ""
+        for number, tree in enumerate(trees):
+            for path, it in positions(tree):
+                if it.kind == REPEAT and not it.is_run and not it.facts.guarded:
+                    try:
+                        text = nodes.body_text(it, self.pattern)
+                    except Unreadable:
+                        continue
+                    if self.pattern.verbose:
+                        text = f"(?x:{text}\n)"
+                    loops.append((number, path, self.pattern.encoded(front + text)))
+        verdicts = self.classes([it[2] for it in loops], "fullmatch", 0)
+        found: List[List[Path]] = [[] for _ in trees]
+        for (number, path, _), verdict in zip(loops, verdicts):
+            if verdict is not None and verdict.kind == "exponential":
+                found[number].append(path)
+        return [[it for it in every if not any(other != it and other[:len(it)] == it for other in every)] for every in found]
 
-        These are the repeats, with or without an upper bound, whose body isn't just a class and contains no guard. A
-        loop that can't be written is left out.
-        """
-        paths: List[Path] = []
-        texts: List[Text] = []
-        prefix = front(self.read.flags & ~re.VERBOSE)
-        for path, it in positions(tree):
-            if isinstance(it, Repeat) and not isinstance(it.body, Chars) and not it.facts.guarded:
-                try:
-                    texts.append(self.encoded(prefix + body(it, self.read.alphabet)))
-                    paths.append(path)
-                except Unwritable:
-                    continue
-        return paths, texts
-
-    def guilty(self, tree: Node) -> List[Path]:
-        """Returns the paths to the loops that are exponential by themselves and contain no smaller loop that is.
-
-        Returns none if the class of the original isn't exponential.
-        """
-        if order(self.before) != EXPONENTIAL:
-            return []
-        paths, texts = self.loops(tree)
-        verdicts = self.classes(texts, 0, "fullmatch")
-        found = [path for path, verdict in zip(paths, verdicts) if verdict and verdict.kind == "exponential"]
-        return [it for it in found if not any(other != it and other[:len(it)] == it for other in found)]
-
-    def ask_ahead(self, trees: Sequence[Node]) -> None:
-        """Asks relint about the loops of all these trees in one run, so that `guilty` needs no run of its own for each.
-
-        Does nothing if the original isn't exponential, since `guilty` asks nothing then.
-        """
-        if order(self.before) == EXPONENTIAL:
-            self.classes([text for it in trees for text in self.loops(it)[1]], 0, "fullmatch")
+    def classes(self, patterns: Sequence[Text], mode: str, flags: Optional[int] = None) -> List[Optional[Verdict]]:
+        """Returns the classes of patterns in a mode; `flags` are those of the call unless they are given."""
+        self.asked.update((it, mode) for it in patterns)
+        return self.asker.verdicts([(it, self.how.flags if flags is None else flags, mode) for it in patterns])
 
     def proposals(self, tree: Node) -> List[Proposal]:
-        """Returns at most MOST_PROPOSALS proposals of the rules for the tree, the cheapest first.
-
-        Once about MOST_MADE were made, the rules are cut short. No text is proposed twice in a search, and what is cut off
-        here isn't proposed later. A change in a loop at fault costs 1 less than its rule does.
-        """
-        guilty = self.guilty(tree)
+        """Returns what the rules propose for a tree, the cheapest first; a change in a loop at fault costs 1 less."""
+        guilty, alphabet = self.guilty([tree])[0], self.pattern.alphabet
         found: List[Proposal] = []
-        for rule in self.rules:
+        for rule in WHOLE:
+            for new in rule.rewrite(tree, alphabet):
+                found += self.proposal(rule, rule.cost, new)
+        for rule in RULES:
+            new, count = everywhere(tree, rule, alphabet)
+            if count > 1:
+                found += self.proposal(rule, rule.cost + 0.1, new)
+        for rule in RULES:
             for path, node in positions(tree):
                 if len(found) >= MOST_MADE:
                     break
-                near = any(path[:len(it)] == it for it in guilty)
-                for new in rule.rewrite(node, self.read.alphabet):
-                    found += self.proposal(rule, rule.cost - (1 if near else 0), put(tree, path, new))
-        if "search" in self.modes and self.rules is RULES:
-            for new in LINE_ANCHOR.rewrite(tree, self.read.alphabet):
-                found += self.proposal(LINE_ANCHOR, LINE_ANCHOR.cost, new)
+                is_near = any(path[:len(it)] == it for it in guilty)
+                for new in rule.rewrite(node, alphabet):
+                    found += self.proposal(rule, rule.cost - is_near, put(tree, path, new))
         return sorted(found, key=lambda it: it.cost)[:MOST_PROPOSALS]
 
     def proposal(self, rule: Rule, cost: float, tree: Node) -> List[Proposal]:
-        """Returns a list of one proposal for the tree, or an empty list.
-
-        It is empty if the tree doesn't have the groups of the original, or if its text can't be written, is longer than
-        LONGEST, or was proposed before.
-        """
-        if tree.facts.groups != self.read.tree.facts.groups:
+        """Returns the proposal for a tree; none if it has other groups, can't be written, is too long, or was proposed."""
+        if tree.facts.groups != self.pattern.tree.facts.groups:
             return []
         try:
-            text = plain(tree, self.read)
-        except Unwritable:
+            text = nodes.written(tree, self.pattern)
+        except Unreadable:
             return []
-        if text in self.seen or len(text) > LONGEST:
+        old = self.pattern.text
+        if text in self.seen or len(text) > min(LONGEST, 2 * len(old) + 40) or new_groups(old, text) > 6:
             return []
         self.seen.add(text)
         return [Proposal(cost, rule.name, tree, text)]
 
     # What is judged
 
-    def followers(self, tree: Node, badness: Worth) -> List[Tuple[Proposal, Worth, str]]:
-        """Returns the proposals for a tree that match the same texts and are better, with their worth and tier.
+    def followers(self, tree: Node, worth: Worth, steps: Tuple[str, ...]) -> List[Tuple[Proposal, Worth, str]]:
+        """Returns the proposals for a tree that match the same texts and are better, with their worth and kind.
 
-        `badness` is the worth of the tree. If none of them is of tier a, up to MOST_EVEN proposals that are as good as the
-        tree are compared too, and returned if they match the same texts. Fewer are compared if the search is to end.
+        If none can be a fix, some that are as good as the tree are returned too.
         """
+        every = self.proposals(tree)
+        kinds = dict(zip((it.text for it in every), self.kinds([self.pattern.encoded(it.text) for it in every])[0]))
+        every = [it for it in every if kinds[it.text] != OTHER]
+        goal = self.how.goal()
         found: List[Tuple[Proposal, Worth, str]] = []
         even: List[Tuple[Proposal, Worth]] = []
-        every = self.proposals(tree)
-        for at in range(0, len(every), BATCH):
+        for start in range(0, len(every), BATCH):
             if not self.goes_on():
-                break
-            part = every[at:at + BATCH]
-            verdicts = self.classes([self.encoded(it.text) for it in part], self.flags, self.mode)
-            fitting = [(it, verdict) for it, verdict in zip(part, verdicts) if verdict and order(verdict) <= badness[0]]
-            self.ask_ahead([it.tree for it, _ in fitting])
-            judged = [(it, (order(verdict), len(self.guilty(it.tree))), verdict) for it, verdict in fitting]
-            for it, worth, verdict in sorted(judged, key=lambda one: (one[1], self.far(one[0]), one[0].cost)):
-                if worth < badness:
-                    tier = self.judged(it, verdict)
-                    found += [(it, worth, tier)] if tier else []
-                elif worth == badness:
-                    even.append((it, worth))
-            if any(tier == "a" for _, _, tier in found):
                 return found
-        for it, worth in even[:MOST_EVEN]:
-            tier = self.judged(it, None)
-            found += [(it, worth, tier)] if tier else []
+            judged = self.worths(every[start:start + BATCH], worth)
+            judged.sort(key=lambda one: (max(goal, kinds[one[0].text]), one[1][:2], self.far(one[0].text), one[0].cost))
+            for it, its, verdict in judged:
+                if its[:2] >= worth[:2]:
+                    even += [(it, its)] if kinds[it.text] <= goal else []
+                    continue
+                self.advised += kinds[it.text] > goal
+                if kinds[it.text] <= goal or self.advised <= MOST_ADVICE:
+                    kind = self.judged(it, its, verdict, steps)
+                    found += [(it, its, kind)] if kind else []
+        if self.is_enough() or any(kind <= goal and it.rule != "line-anchor" for it, _, kind in found):
+            return found
+        for it, its in sorted(even, key=lambda one: (one[1], one[0].cost, self.far(one[0].text)))[:MOST_EVEN]:
+            kind = self.judged(it, its, None, steps)
+            found += [(it, its, kind)] if kind else []
         return found
 
-    def far(self, proposal: Proposal) -> int:
-        """Returns how different a proposal looks from the original, as `distance` counts it."""
-        return distance(self.read.text, proposal.text)
+    def worths(self, every: Sequence[Proposal], worth: Worth) -> List[Tuple[Proposal, Worth, Verdict]]:
+        """Returns the proposals that aren't worse than the tree that they are made from, with their worth and class."""
+        texts = [self.pattern.encoded(it.text) for it in every]
+        first = [(it, text, verdict) for it, text, verdict in zip(every, texts, self.classes(texts, self.how.worst))
+                 if verdict is not None and _rank(verdict) <= worth[0]]
+        kept = [text for _, text, _ in first]
+        others = list(zip(*(map(_rank, self.classes(kept, mode)) for mode in self.how.modes()[1:]))) or [()] * len(kept)
+        guilty = self.guilty([it.tree for it, _, _ in first])
+        return [(it, (_rank(verdict), len(paths), tuple(ranks)), verdict)
+                for (it, _, verdict), ranks, paths in zip(first, others, guilty)
+                if all(rank <= was for rank, was in zip(ranks, self.before[2]))]
 
-    def judged(self, proposal: Proposal, verdict: Optional[Verdict]) -> str:
-        """Compares a proposal with the original; returns its tier, or "" if it doesn't match the same texts.
+    def kinds(self, patterns: Sequence[Text]) -> Tuple[List[str], int]:
+        """Returns what trials say of patterns, as `Trial` does, within the time that is left."""
+        return self.trial.kinds(patterns, max(0.2, self.deadline - time.monotonic()))
 
-        `verdict` is its class, or None if the proposal is only a step and isn't to be kept. If the class is lower than the
-        original's, the proposal is given to `keep` if it matches the same texts and is no worse in any mode, and to `miss` if
-        it doesn't match them. Returns "" and does nothing if the search is to end.
+    def far(self, text: str) -> int:
+        """Returns how different a pattern looks from the original."""
+        return distance(self.pattern.text, text)
+
+    def judged(self, it: Proposal, worth: Worth, verdict: Optional[Verdict], steps: Tuple[str, ...]) -> str:
+        """Compares a proposal with the pattern; returns what it is, as a word of `Trial`, or "" if it matches other texts.
+
+        Its cure is kept if its class is lower; `verdict` is None if it is only a step.
         """
         if not self.goes_on():
             return ""
         self.tries += 1
-        text = self.encoded(proposal.text)
-        if not self.asker.equal(self.original, text, self.flags, self.modes):
-            self.miss(text, verdict)
+        found = self.compared(it.text)
+        if found is None:
             return ""
-        judged = self.judge.judge(text)
-        if verdict is not None and order(verdict) < order(self.before) and self.no_worse(text):
-            self.keep(proposal, verdict, judged)
-        return judged.tier
+        differs, rank = found
+        if verdict is not None and worth[0] < self.before[0]:
+            is_hard_now = is_hard(self.pattern.text, it.text)
+            top = max(worth[0], *worth[2], 0)
+            self.keep(Cure(self.pattern.encoded(it.text), verdict, differs, rank, (*steps, it.rule), is_hard_now, top))
+        return self.how.goal() if not differs else (SPANS_TOO if rank < 2 else TEXTS_ALONE)
 
-    def miss(self, text: Text, verdict: Optional[Verdict]) -> None:
-        """Keeps a proposal that doesn't match the same texts, with texts that show the difference.
-
-        It isn't kept if its class is None or isn't lower, or if no such text is known.
-        """
-        if verdict is None or order(verdict) >= order(self.before):
+    def keep(self, cure: Cure) -> None:
+        """Keeps a cure if it is the best of its sort: no finding first, then the easiest to read."""
+        rank = cure.top
+        is_fine = rank <= self.how.max_degree
+        sort = "advice" if cure.differs else "hard" if cure.hard_to_read else "same"
+        if sort != "same" and not is_fine:
             return
-        for mode in self.modes:
-            found = self.asker.compare(self.original, text, self.flags, mode)
-            if found.first is not None or found.second is not None:
-                self.misses.append(Miss(text, verdict, found.first, found.second))
-                return
+        far = self.far(as_text(cure.pattern)) + DEGREE_WEIGHT * (rank if is_fine else 0)
+        worth = cure.rank, max(rank, self.how.max_degree), far
+        if sort not in self.best or worth < self.best[sort][0]:
+            self.best[sort] = worth, cure
+            self.kept_at = self.tries
 
-    def no_worse(self, text: Text) -> bool:
-        """Returns whether the class of `text` is no higher than the original's in any of the modes."""
-        for mode in self.modes:
-            one, other = self.asker.classes([self.original, text], self.flags, mode)
-            if order(other) > order(one):
-                return False
-        return True
+    def compared(self, text: str) -> Optional[Tuple[str, int]]:
+        """Returns None if it isn't proved that a pattern matches the same texts, else what differs, and its rank.
 
-    def keep(self, proposal: Proposal, verdict: Verdict, judged: Judgement) -> None:
-        """Keeps a cure if it is the best of its tier so far: by its class, then by its distance from the original.
-
-        Of equal ones, the first is kept.
+        ("", 0) means that the code can't notice it.
         """
-        worth = order(verdict), self.far(proposal)
-        if judged.tier in self.best and self.kept.get(judged.tier, worth) <= worth:
-            return
-        self.kept[judged.tier] = worth
-        self.kept_at = self.tries
-        text, judged = self.as_written(proposal, judged)
-        self.best[judged.tier] = Cure(text, verdict, judged.tier, self.before, (*self.steps, proposal.rule), judged, self.mode)
+        new = self.pattern.encoded(text)
+        same = [self.pair("compare", new, mode=mode) for mode in self.how.modes()]
+        needs = [] if self.how.only_truth() else self.needs(new, self.how.position, self.how.sees == "groups")
+        answers = self.asker.ask_all([*same, *(it for need in needs for it in need)])
+        if not all(it.get("relation") == "equal" for it in answers[:len(same)]):
+            return None
+        rest = iter(answers[len(same):])
+        if all([any([next(rest).get("answer") == "same" for _ in need]) for need in needs]):
+            return "", 0
+        return self.difference(new, answers[len(same):])
 
-    def as_written(self, proposal: Proposal, judged: Judgement) -> Tuple[Text, Judgement]:
-        """Returns the proposal with its unchanged parts written as in the original, and the judgement of that text.
+    def difference(self, new: Text, answers: Sequence[Mapping[str, Any]]) -> Tuple[str, int]:
+        """Returns what differs, in a clause, of a pattern that matches the same texts, and its rank."""
+        has_groups = bool(self.pattern.tree.facts.groups)
+        sees_groups = self.how.sees == "groups" and has_groups
+        if sees_groups and self.holds(self.needs(new, self.how.position, False)):
+            return "same texts, but " + (_differs(answers, range(1, 101)) or "the groups aren't proved the same"), 1
+        if self.how.position and self.holds(self.needs(new, False, self.how.sees == "groups")):
+            return "the same, unless the call is given a position", 2
+        return "same texts, but " + (_differs(answers, range(101)) or "the spans aren't proved the same"), 3
 
-        Returns the plain text and the given judgement if the other text can't be shown to be the same pattern, or if its tier
-        differs.
-        """
-        verbose = bool(self.read.flags & re.VERBOSE)
-        written = self.encoded(with_layout(self.read.text, kept(proposal.tree, self.read), verbose))
-        if written == self.encoded(proposal.text):
-            return written, judged
+    def holds(self, needs: Sequence[Sequence[Mapping[str, Any]]]) -> bool:
+        """Returns whether for each need one of its questions is answered by "same"."""
+        return all(any(it.get("answer") == "same" for it in self.asker.ask_all(need)) for need in needs)
+
+    def pair(self, ask: str, new: Text, old: Optional[Text] = None, **more: Any) -> Dict[str, Any]:
+        """Returns a question about the pattern (or `old`) and a new one."""
+        said = {"ask": ask, "first": as_text(self.original if old is None else old), "second": as_text(new),
+                "flags": letters(self.how.flags) or "", **more}
+        return {**said, "bytes": True} if isinstance(new, bytes) else said
+
+    def needs(self, new: Text, position: bool, groups: bool) -> List[List[Dict[str, Any]]]:
+        """Returns what has to be the same for the code: for each need questions of which one "same" is enough."""
+        methods = self.how.methods
+        needs: List[List[Dict[str, Any]]] = []
+
+        def asked(mode: str, front: str = "", end: str = "") -> Dict[str, Any]:
+            """A question about both patterns, each between an anchor and another one."""
+            both = [_between(it, front, end, self.pattern.verbose) if front else it for it in (self.original, new)]
+            return self.pair("spans", both[1], both[0], mode=mode, groups=groups)
+
+        for method, other in (("fullmatch", "fullmatch"), ("match", "search")):
+            if method in methods:
+                ends = [] if position else [asked("one-search", "\\A", "\\Z" if method == "fullmatch" else "")]
+                needs.append([asked(other), *ends])
+        if "search" in methods:
+            needs.append([asked("search"), *([] if position else [asked("one-search")])])
+        if methods & REPEATED:
+            needs.append([asked("search")])
+        return needs
+
+    # At the end
+
+    def try_suggestion(self, text: str) -> None:
+        """Tries the simpler pattern that the program suggests, with the layout of the original, if its groups are the same."""
+        text = nodes.with_layout(self.pattern.text, text, self.pattern.verbose)
+        new, was = self.pattern.encoded(text), (self.before[0], *self.before[2])
         try:
-            left, right = read_both([written, self.encoded(proposal.text)], self.flags)
+            tree = read_pattern(new, self.how.flags, self.asker).tree
         except Unreadable:
-            return self.encoded(proposal.text), judged
-        if normal(left.tree) != normal(right.tree) or not self.asker.equal(self.original, written, self.flags, self.modes):
-            return self.encoded(proposal.text), judged
-        again = self.judge.judge(written)
-        return (written, again) if again.tier == judged.tier else (self.encoded(proposal.text), judged)
+            return
+        verdicts = [self.classes([new], it)[0] for it in self.how.modes()]
+        ranks = [_rank(it) for it in verdicts]
+        if tree.facts.groups == self.pattern.tree.facts.groups and all(one <= other for one, other in zip(ranks, was)):
+            self.seen.add(text)
+            self.judged(Proposal(0, "suggestion", tree, text), (ranks[0], 0, tuple(ranks[1:])), verdicts[0], ())
+
+    def stop_at_words(self) -> None:
+        """Tries runs that stop at the first word behind them, by an atomic group or a look-ahead.
+
+        relint-ask doesn't judge these: it judges the same pattern written out, and trials compare the short form.
+        """
+        items = self.pattern.tree.items if self.pattern.tree.kind == ROW else ()
+        places = [(at, word) for at in range(len(items)) for word in [word_behind(items, at)] if len(word) > 1]
+        if places:
+            self.trial.begin(self.original, self.how.flags, self.how.calls(), Sampler(self.pattern, 3).texts(TRIED))
+        for some in [[it] for it in places] + [places] * (len(places) > 1):
+            if time.monotonic() > self.deadline:
+                return
+            try:
+                long, short = (self.stopped(items, some, is_short) for is_short in (False, True))
+            except Unreadable:
+                continue
+            verdicts = [it for mode in self.how.modes() for it in self.classes([self.pattern.encoded(long)], mode)]
+            top = max(map(_rank, verdicts))
+            if top <= self.how.max_degree and verdicts[0] and self.compared(long) == ("", 0):
+                new = self.pattern.encoded(short)
+                kinds, count = self.kinds([new])
+                if kinds[0] <= self.how.goal() and count > TRIED // 2:
+                    differs = "" if self.how.has_atomic else "it finds the same, but relint can't judge a look-ahead"
+                    cure = Cure(new, verdicts[0], differs, 0, ("stop-at-word",), top=top, is_proved=False)
+                    self.best["checked"] = (0,), cure
+                    return
+
+    def stopped(self, items: Sequence[Node], places: Sequence[Tuple[int, List[int]]], is_short: bool) -> str:
+        """Returns the pattern with runs that stop at the words behind them: written out, or in the short form."""
+        new = list(items)
+        for at, word in places:
+            run = edge(new[at], -1)
+            free = word_free(run.body.mask, word) if run is not None else None
+            if run is None or free is None:
+                raise Unreadable("its word can't be left out")
+            if is_short:
+                text = "".join(nodes.body_text(it, self.pattern) for it in items[at + 1:at + 1 + len(word)])
+                body = nodes.body_text(run.body, self.pattern)
+                free = guard(f"(?:(?!{text}){body})" + ("*" if run.greedy else "*?"))
+                if self.how.has_atomic:
+                    new[at] = guard("(?>" + nodes.body_text(new[at], self.pattern) + text + ")")
+                    new[at + 1:at + 1 + len(word)] = [EMPTY] * len(word)
+                    continue
+            new[at] = with_edge(new[at], -1, row([*[run.body] * run.least, free]))
+        return nodes.written(row(new), self.pattern)
+
+    def miss(self) -> None:
+        """If there is no cure, takes a pattern whose runs leave out a character as advice, with a text that it loses."""
+        texts = [] if self.best else [self.pattern.encoded(it) for it in dict.fromkeys(self.narrower())][:BATCH]
+        verdicts = self.classes(texts, self.how.worst)
+        fine = [(it, its) for it, its in zip(texts, verdicts) if its and _rank(its) <= self.how.max_degree]
+        answers = self.asker.ask_all([self.pair("compare", it, mode=self.how.worst) for it, _ in fine])
+        for (new, verdict), answer in zip(fine, answers):
+            lost = _read(answer.get("first"))
+            if lost is None or answer.get("second") is not None:
+                continue
+            # (of two, the one whose first text is longer loses less)
+            worth = -len(lost), self.far(as_text(new)), 0
+            if "advice" not in self.best or worth < self.best["advice"][0]:
+                differs = "it no longer matches " + _short(lost)
+                self.best["advice"] = worth, Cure(new, verdict, differs, MISSED, ("narrower",), False, _rank(verdict))
+
+    def narrower(self) -> Iterator[str]:
+        r"""Yields the pattern with `\.` for each dot alone, or with a mark that stands in it taken out of all runs or one."""
+        tree, alphabet = self.pattern.tree, self.pattern.alphabet
+        dotted = tree
+        for path, node in positions(tree):
+            if node.text == "." and path and nodes.at(tree, path[:-1]).kind == ROW:
+                dotted = put(dotted, path, guard("\\."))
+        if dotted is not tree:
+            yield nodes.written(dotted, self.pattern)
+        marks = [it for it in dict.fromkeys(mask for _, mask in signs(tree)) if alphabet.is_one(it)]
+        for mark in marks:
+            for path, node in ((), tree), *endless_runs(tree):
+                new = put(tree, path, _without(node, mark)) if not alphabet.of(mark).isalnum() else tree
+                try:
+                    if new != tree:
+                        yield nodes.written(new, self.pattern)
+                except Unreadable:
+                    continue
+
+    def checked(self) -> List[Cure]:
+        """Returns the cures, with the layout of the pattern, that a trial on more texts doesn't refute."""
+        cures = [self.laid_out(self.best[it][1]) for it in ("same", "hard", "checked", "advice") if it in self.best]
+        self.trial.begin(self.original, self.how.flags, self.how.calls(), Sampler(self.pattern, 1).texts(TRIED))
+        kinds = self.kinds([it.pattern for it in cures])[0]
+        wanted = {0: self.how.goal(), 1: SPANS_TOO, 2: TEXTS_ALONE, 3: TEXTS_ALONE, MISSED: OTHER}
+        return [it for it, kind in zip(cures, kinds) if kind <= wanted[it.rank] or it.rank == MISSED]
+
+    def laid_out(self, cure: Cure) -> Cure:
+        """Returns the cure with the blanks and comments of the pattern, if it is proved to be the same cure."""
+        text = nodes.with_layout(self.pattern.text, as_text(cure.pattern), self.pattern.verbose)
+        if text == as_text(cure.pattern) or cure.rank == MISSED:
+            return cure
+        found, verdict = self.compared(text), self.classes([self.pattern.encoded(text)], self.how.worst)[0]
+        fits = found is not None and found[1] == cure.rank and _rank(verdict) == _rank(cure.verdict)
+        return replace(cure, pattern=self.pattern.encoded(text)) if fits else cure
+
+
+def read_pattern(pattern: Text, flags: int, asker: Asker) -> Pattern:
+    """Returns a pattern as a tree, by relint-ask; raises Unreadable if it isn't taken, and ProgramError."""
+    answer: Mapping[str, Any] = {}
+    for is_short in (False, True):
+        probe = nodes.Probe(as_text(pattern), flags, isinstance(pattern, bytes), is_short)
+        answer = asker.ask_all([probe.question()])[0]
+        if answer.get("answer") == "tree":
+            return probe.read(answer)
+    raise Unreadable(str(answer.get("cause") or answer.get("message") or answer.get("answer")))
+
+
+def everywhere(node: Node, rule: Rule, alphabet: Alphabet) -> Tuple[Node, int]:
+    """Returns the tree with the first proposal of a rule at each place, inner places first, and how many there are."""
+    parts = [everywhere(it, rule, alphabet) for it in node.items]
+    count = sum(it[1] for it in parts)
+    node = made(node, [it[0] for it in parts]) if count else node
+    for _ in range(4):
+        new = next(rule.rewrite(node, alphabet), None)
+        if new is None or new == node or new.facts.size > 3 * node.facts.size:
+            break
+        node, count = new, count + 1
+    return node, count
+
+
+def word_behind(items: Sequence[Node], at: int) -> List[int]:
+    """Returns the masks of the characters right behind the endless run with which a part of a row ends."""
+    run, word = edge(items[at], -1), []
+    for it in items[at + 1:] if run is not None and run.endless and run.least < 2 and items[at].span else ():
+        if it.kind != CHARS:
+            break
+        word.append(it.mask)
+    return word
+
+
+def _rank(verdict: Optional[Verdict]) -> int:
+    """The rank of the worst class that a pattern may have; what isn't known is exponential."""
+    if verdict is None or verdict.kind == "undecided":
+        bound = verdict.at_most if verdict is not None else None
+        return bound.degree if bound is not None and bound.degree is not None else EXPONENTIAL
+    return verdict.rank()
+
+
+def _between(pattern: Text, front: str, end: str, verbose: bool) -> Text:
+    """A pattern between two anchors, with the flags at its front still there."""
+    text = as_text(pattern)
+    found = nodes.FRONT.match(text)
+    at = found.end() if found else 0
+    whole = f"{text[:at]}{front}(?:{text[at:]}" + ("\n" if verbose else "") + f"){end}"
+    return whole if isinstance(pattern, str) else whole.encode("latin-1")
+
+
+def _read(found: Any) -> Optional[Text]:
+    """A quoted text of an answer, or None."""
+    try:
+        return read_text(found)
+    except ReportError:
+        return None
+
+
+def _short(text: Text) -> str:
+    """A text as a literal, cut if it is long."""
+    return quoted(text if len(text) <= 40 else text[:38]) + ("..." if len(text) > 40 else "")
+
+
+FOUND = re.compile(r"(?:(\d+)=)?(?:\((\d+), (\d+)\)|none)")
+
+
+def _spans(found: Any) -> Dict[int, Optional[Tuple[int, int]]]:
+    """What a matcher finds, as an answer says it: the span of the whole (0) and of each group."""
+    return {int(number or 0): (int(low), int(high)) if low else None for number, low, high in FOUND.findall(str(found))}
+
+
+def _differing(answers: Sequence[Mapping[str, Any]]) -> List[Tuple[Text, Dict[int, Any], Dict[int, Any]]]:
+    """The texts on which two patterns differ, with what each of them finds."""
+    found = []
+    for it in answers:
+        text = _read(it.get("text")) if it.get("answer") == "differ" else None
+        if text is not None and it.get("empty") is not False:
+            found.append((text, _spans(it.get("first")), _spans(it.get("second"))))
+    return found
+
+
+def _differs(answers: Sequence[Mapping[str, Any]], numbers: Sequence[int]) -> str:
+    """A clause that says which of these groups (0 is the whole match) is another one; "" if that isn't known."""
+    for text, first, second in _differing(answers):
+        for number in numbers:
+            one, other = first.get(number), second.get(number)
+            if one == other:
+                continue
+            if number == 0 and (one is None or other is None):
+                return f"a match in {_short(text)} begins or ends elsewhere"
+            was, now = (_short(text[it[0]:it[1]]) if it else "nothing" for it in (one, other))
+            if was == now:
+                return f"{f'group {number}' if number else 'the match'} is another {now} of {_short(text)}"
+            return f"group {number} holds {now} instead of {was}" if number else f"it finds {now} instead of {was}"
+    return ""
+
+
+def _without(node: Node, mark: int) -> Node:
+    """The tree with a mark taken out of each endless run that has it and more."""
+    if node.is_run:
+        less = node.body.mask & ~mark
+        return again(node, chars(less)) if node.endless and less and less != node.body.mask else node
+    parts = [_without(it, mark) for it in node.items]
+    return made(node, parts) if tuple(parts) != node.items else node
+
+
+class Sampler:
+    """Makes texts on which patterns are compared: many match, and many nearly do. The same seed gives the same ones."""
+
+    def __init__(self, pattern: Pattern, seed: int) -> None:
+        """Takes the pattern whose texts are wanted."""
+        self.pattern, self.random = pattern, random.Random(seed)
+        self.left = MOST_PARTS
+        self.words: List[str] = [""]
+        self.letters: Dict[int, str] = {}
+        for _, it in positions(pattern.tree):
+            for one in it.items if it.kind == ROW else ():
+                if one.kind == CHARS and pattern.alphabet.is_one(one.mask):
+                    self.words[-1] += pattern.alphabet.of(one.mask)[:1]
+                else:
+                    self.words.append("")
+        self.words = sorted({it for it in self.words if len(it) > 1}) or [""]
+        every = {self.letter(it.mask) for _, it in positions(pattern.tree) if it.kind == CHARS}
+        self.marks = sorted(every | {" ", "\n", "\t"} | set(pattern.alphabet.samples[:12]))
+
+    def letter(self, mask: int) -> str:
+        """Returns a character of a mask, or "" for the empty one."""
+        if mask not in self.letters:
+            self.letters[mask] = self.pattern.alphabet.of(mask)
+        samples = self.letters[mask]
+        return samples[int(self.random.random() * len(samples))] if samples else ""
+
+    def text(self, node: Node) -> str:
+        """Returns a text that the node matches, mostly; "" once it is made of too many parts."""
+        self.left -= 1
+        if self.left < 0:
+            return ""
+        if node.kind == CHARS:
+            return self.letter(node.mask)
+        if node.kind == GUARD:
+            return self.random.choice(("", "", "", "\n"))
+        if node.kind == CHOICE:
+            return self.text(self.random.choice(node.items))
+        if node.kind != REPEAT:
+            return "".join(map(self.text, node.items))[:4 * LONGEST_TEXT]
+        count = min(node.least, 40) + min(self.random.choice((0, 0, 1, 1, 2, 3)), node.most - node.least)
+        found = ""
+        while count > 0 and len(found) <= LONGEST_TEXT and self.left > 0:
+            found += self.text(node.body)
+            count -= 1
+        return found
+
+    def spoiled(self, text: str) -> str:
+        """Returns a text with up to three changes: a part of a word put in, a character out, some doubled, parts swapped."""
+        for _ in range(self.random.choice((0, 0, 1, 1, 2, 3))):
+            at, kind = self.random.randrange(len(text) + 1), self.random.random()
+            word = self.random.choice(self.words)
+            if kind < 0.3:
+                text = text[:at] + self.random.choice(self.marks) + text[at:]
+            elif kind < 0.45:
+                text = text[:at] + word[:self.random.randrange(len(word) + 1)] + text[at:]
+            elif kind < 0.6:
+                text = text[:at] + text[at + 1:]
+            elif kind < 0.8:
+                text = text[:at] + text[max(0, at - 3):at] + text[at:]
+            else:
+                text = text[at:] + self.random.choice((" ", "\n", "\t")) + text[:at]
+        return text
+
+    def texts(self, count: int) -> List[str]:
+        """Returns that many texts of at most LONGEST_TEXT characters."""
+        found = ["", " ", "\n"]
+        while len(found) < count:
+            self.left = MOST_PARTS
+            text = self.text(self.pattern.tree)
+            if self.random.random() < 0.3:
+                text += self.random.choice(("", " ", "\n", "\t")) + self.text(self.pattern.tree)
+            found.append(self.spoiled(text)[:LONGEST_TEXT])
+        return found[:count]

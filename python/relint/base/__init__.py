@@ -1,0 +1,1 @@
+"""What everything else stands on: types, words, and safe access to files."""

@@ -1,0 +1,1 @@
+"""The two proved programs: how they are found, run, and asked."""

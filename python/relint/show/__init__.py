@@ -1,0 +1,1 @@
+"""Layouts: findings as text for terminals, build servers and browsers."""

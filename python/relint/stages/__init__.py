@@ -1,0 +1,1 @@
+"""The stages of `rlt check`, in order, and the workers that read sources for them."""

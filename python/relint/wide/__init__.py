@@ -1,1 +1,0 @@
-"""What relint-wide and relint-record find beyond the literals that `relint check` judges. None of it is proved."""
