@@ -14,11 +14,11 @@ from pathlib import Path
 from typing import Any, Callable, Dict, List, Optional, Tuple
 
 from chance import NUMBERS, STRANGE, Chance, corpus
-from layouts import COUNTS, head, same_in_all, whole
+from layouts import COUNTS, same_in_all, whole
 from hostile import forks
 from hostile.watch import dangers
 from program import MEGABYTES, Ran, Runner, Wrong, alike
-from questions import spans
+from questions import asks
 
 TOP = Path(__file__).resolve().parent.parent
 MODES = ("fullmatch", "match", "search")
@@ -26,10 +26,12 @@ CALLS = ("compile", "match", "search", "fullmatch", "findall", "finditer", "spli
 FINDING, FAILS = 1, 1
 MIRRORED = {"equal": "equal", "included": "includes", "includes": "included", "disjoint": "disjoint",
             "overlapping": "overlapping"}
-TOOLS: List[Tuple[str, List[str]]] = [
-    ("show", ["--all"]), ("show", ["--format", "github", "--all"]), ("show", ["--format", "sarif"]), ("page", []),
-    ("confirm", ["--seconds", "0.05", "--longest", "300"]), ("many", ["--join", "report.json", "report.json"]),
-    ("mend", ["--seconds", "0.5", "--tries", "2", "--report", "-", "--diff"])]
+WORDS: List[List[str]] = [
+    ["check", "--from", "report.json", "--all"], ["check", "--from", "report.json", "--format", "github", "--all"],
+    ["check", "--from", "report.json", "--format", "sarif"], ["check", "--from", "report.json", "--format", "html"],
+    ["confirm", "--from", "report.json", "--longest", "300"], ["fix", "--from", "report.json", "--diff"],
+    ["check", "--config", "relint.toml", "source.py"], ["check", "--accepted", "accepted.json", "source.py"],
+    ["accept", "--accepted", "accepted.json", "--prune", "source.py"], ["check", "--all", "notebook.ipynb"]]
 SOURCE_TOKENS = [it.encode() for it in (
     "import re\n", "from re import compile as c\n", "re.compile(", "re.match(", "c(", "re.sub(", ")", "r'", "rb'", "f'", "'''",
     '"""', ", re.I", ", flags=re.X | re.M", "(", "[", "{", "#", "\\\n", "def f():\n", "    ", "lambda: ", "pattern=", "*a",
@@ -44,6 +46,15 @@ TOML_TOKENS = [it.encode() for it in (
     "[[a]]",
     "true", "inf", "nan", "1979-05-27", "0b1", "1_000", '"""', "'''", "{a = 1}", "[1, 2]", "# note\n", "\\u00e9", "a.b",
     '"a"', "\n")]
+
+
+CONFIGURATIONS = [it.encode() for it in (
+    'paths = ["source.py"]\nexclude = ["x*"]\n', "max-degree = 3\nwarn-degree = 1\nmax-pairs = 7\n",
+    'accepted = "accepted.json"\n', 'compile-as = "match"\nstrict = true\njobs = 1\nseconds = 9\n', "wide = true\n")]
+_ROW = {"path": "source.py", "pattern": 'r"(a|a)*b"', "mode": "search", "class": "exponential", "reason": "x"}
+ACCEPTED = json.dumps({"accepted": [_ROW], "version": 1}).encode()
+_CELL = {"cell_type": "code", "source": ["import re\n", 're.compile("(a|a)*b")\n'], "metadata": {}, "outputs": []}
+NOTEBOOK = json.dumps({"cells": [_CELL], "metadata": {}, "nbformat": 4, "nbformat_minor": 5}).encode()
 
 
 def words(runner: Runner, chance: Chance, kept: Optional[bytes]) -> None:
@@ -146,26 +157,21 @@ def _read_by_tools(runner: Runner, data: bytes, report: Dict[str, Any]) -> None:
 
     A source with a judged pattern has to be readable. Raises Wrong.
     """
-    reports, sites = importlib.import_module("relint.reports"), importlib.import_module("relint.sites")
+    engine, source = importlib.import_module("relint.engine.engine"), importlib.import_module("relint.code.source")
     if "version" not in report:
         return
-    read = reports.read_report(json.dumps(report).encode("utf-8"))
-    if [it.outcome() for it in read.entries] != [_outcome(it) for it in report["entries"]]:
-        raise Wrong("the reader of reports gives other outcomes: %r" % [it.outcome() for it in read.entries])
+    read = engine.read_report(json.dumps(report).encode("utf-8"))
+    if [it.kind for it in read.entries] != [it["kind"] for it in report["entries"]]:
+        raise Wrong("the reader of reports gives other kinds: %r" % [it.kind for it in read.entries])
     try:
-        source = sites.Source(data)
-    except sites.SourceError:
+        unit = source.Unit("source.py", data)
+    except source.SourceError:
         if any(it["kind"] in ("degree", "exponential") for it in report["entries"]):
             raise Wrong("the reader of sources refuses what relint judged") from None
         return
     for it in read.entries:
         if it.place and it.call:
-            source.site(it.place, it.call)
-
-
-def _outcome(entry: Dict[str, Any]) -> str:
-    """Returns what a report in the brief layout says of an entry, without its place and call."""
-    return head({**entry, "path": "", "call": "x"}).split("x: ", 1)[1]
+            unit.site(it.place, it.call)
 
 
 def _made_settings(chance: Chance) -> bytes:
@@ -333,7 +339,7 @@ def reports(runner: Runner, chance: Chance, kept: Optional[bytes]) -> None:
     data = kept
     if data is None:
         data = _changed_report(chance)
-    module = importlib.import_module("relint.reports")
+    module = importlib.import_module("relint.engine.engine")
     try:
         report = module.read_report(data)
     except module.ReportError as error:
@@ -353,27 +359,32 @@ def _changed_report(chance: Chance) -> bytes:
 
 
 def tools(runner: Runner, chance: Chance, kept: Optional[bytes]) -> None:
-    """Reports, for a random one of TOOLS: it ends within a minute with a status from 0 to 5, and writes no traceback.
+    """Reports, configurations, accepted files and notebooks, for a random one of WORDS of rlt.
 
-    It mustn't take more than MEGABYTES, and mustn't write what a terminal obeys to standard error, nor to standard output if
-    it is `show` or `confirm`. RELINT is set in the environment of this process.
+    It ends within a minute with a status from 0 to 5, and writes no traceback. It mustn't take more than MEGABYTES, and
+    mustn't write what a terminal obeys to standard error, nor to standard output in a layout for people. RELINT is set in the
+    environment of this process.
     """
     data = _changed_report(chance) if kept is None else kept
     for name in ("plain", "names", "refusals", "version-2"):
         runner.put(name + ".py", chance.pick(corpus("sources")))
     runner.put("source.py", chance.pick(corpus("sources")))
     runner.put("report.json", data)
-    tool, given = chance.pick(TOOLS)
-    job = {"tool": tool, "words": given, "cwd": str(runner.folder), "seconds": 60, "megabytes": 3000}
-    job.update({name: str(runner.folder / name) for name in ("out", "err")}, given=str(runner.folder / "report.json"))
+    runner.put("relint.toml", chance.changed(chance.pick(CONFIGURATIONS), TOML_TOKENS))
+    runner.put("accepted.json", chance.changed(ACCEPTED, JSON_TOKENS))
+    runner.put("notebook.ipynb", chance.changed(NOTEBOOK, JSON_TOKENS))
+    given = chance.pick(WORDS)
+    job = {"tool": "rlt", "words": given, "cwd": str(runner.folder), "seconds": 60, "megabytes": 3000}
+    job.update({name: str(runner.folder / name) for name in ("out", "err", "given")})
+    runner.put("given", b"")
     os.environ["RELINT"] = runner.program
     status, _, megabytes = forks.run([job], _loaded(), 1)[0]
     out, err = ((runner.folder / name).read_bytes() for name in ("out", "err"))
-    ran = Ran([tool, *given], -1 if status is None else status, out, err, megabytes)
+    ran = Ran(given, -1 if status is None else status, out, err, megabytes)
     ran.need(status is not None and 0 <= status <= 5, "a status that no page has (-1: no answer in a minute)")
     ran.need(b"Traceback" not in err, "a traceback")
     ran.need(megabytes <= MEGABYTES, "it takes %d MB" % megabytes)
-    shown = out if tool in ("show", "confirm") else b""
+    shown = b"" if "html" in given or "--diff" in given else out
     said = (shown + b"\n" + err).decode("utf-8", "surrogateescape")
     obeyed = dangers(said, not said.startswith("{"))
     ran.need(not obeyed, "it writes " + "; ".join(obeyed))
@@ -386,19 +397,19 @@ def _loaded() -> Dict[str, Any]:
 
 
 def _use(entry: Any) -> None:
-    """Does what tools do first with an entry. Raises Wrong if any of it fails."""
+    """Does what stages do first with an entry. Raises Wrong if any of it fails."""
     try:
-        entry.outcome()
-        entry.is_finding(2)
         hash(entry)
-        if entry.family:
-            entry.family.text(2)
+        if entry.verdict:
+            entry.verdict.is_finding(2)
+            if entry.verdict.family:
+                entry.verdict.family.text(2)
     except Exception as error:  # (whatever comes here is the finding)
         raise Wrong("an entry that the reader took raises %s: %s" % (type(error).__name__, error)) from error
 
 
 TARGETS: Dict[str, Callable[[Runner, Chance, Optional[bytes]], None]] = {
     "words": words, "sources": sources, "settings": settings, "baselines": baselines, "certificates": certificates,
-    "reports": reports, "tools": tools, "spans": spans}
+    "reports": reports, "tools": tools, "asks": asks}
 # How many of a hundred cases are of each target.
-SHARES = {"words": 18, "sources": 18, "settings": 13, "baselines": 9, "certificates": 9, "reports": 19, "tools": 5, "spans": 9}
+SHARES = {"words": 18, "sources": 18, "settings": 13, "baselines": 9, "certificates": 9, "reports": 19, "tools": 5, "asks": 9}

@@ -9,13 +9,14 @@ import time
 from functools import partial
 from typing import Callable, Dict, List, Tuple
 
-from runner import arm64, code, examples, hardening, hook, hostile, outside, pages, release, rows, spans, versions
+from runner import arm64, ask, book, code, examples, hardening, hook, hostile, outside, pages, release, rows, versions
 from runner.programs import TREE, Program, behind_launcher, tested_program
 from runner.results import Failed, Result
 
 PARTS: Dict[str, Callable[[Program], Result]] = {
     "rows": rows.run,
-    "spans": spans.run,
+    "ask": ask.run,
+    "book": book.run,
     "examples": examples.run,
     "pages": pages.run,
     "python": code.run,

@@ -9,7 +9,7 @@ from pathlib import Path
 from typing import Any, Dict, FrozenSet, Iterator, List, Optional, Sequence, Tuple
 
 from hostile import inputs, tree
-from hostile.runs import SHOWN, WRITTEN, Place
+from hostile.runs import LAYOUTS, SHOWN, Place
 from hostile.watch import TRACEBACK, WITHOUT_RIGHTS, Watch, dangers, headers
 
 FORKS = Path(__file__).with_name("forks.py")
@@ -19,6 +19,7 @@ SECONDS = 1800
 # The most memory that a tool may take for a file of some hundred kilobytes, and what it can't get more of.
 MOST_MEGABYTES, LIMIT_MEGABYTES = 600, 2500
 REFUSED = frozenset([2])
+STOPPED = frozenset([2, 3])
 _SHOWN = 200
 
 
@@ -52,29 +53,25 @@ class Came:
 
 
 def _for_reports(given: inputs.Given, path: str) -> Iterator[Case]:
-    """A report, for each tool that reads one."""
+    """A report, for each word that reads one."""
     refused, name = given.refused, given.name
-    shown, written = (REFUSED, REFUSED) if refused else (SHOWN, WRITTEN)
-    quick = ["--seconds", "0.05", "--longest", "500"]
+    shown = REFUSED if refused else SHOWN
     # (what is refused is refused before a layout is asked for)
-    for layout in ("terminal",) if refused else ("terminal", "github", "sarif"):
-        yield Case("relint-show --format %s, report %s" % (layout, name), "show", ["--format", layout, "--all"], shown,
-                   given.data, refused)
-    yield Case("relint-page, report " + name, "page", [], written, given.data, refused, raw=True)
-    yield Case("relint-confirm, report " + name, "confirm", quick, written, given.data, refused)
-    mend = ["--seconds", "1", "--tries", "2", "--report"]
-    yield Case("relint-mend, report " + name, "mend", [*mend, "-", "--diff"], shown, given.data, refused, diff=True)
-    yield Case("relint-many --join, report " + name, "many", ["--join", path, path], SHOWN, raw=True)
+    for layout in ("terminal",) if refused else LAYOUTS:
+        yield Case("rlt --format %s, report %s" % (layout, name), "rlt", ["--from", path, "--format", layout, "--all"], shown,
+                   refused=refused, raw=layout not in ("terminal", "concise", "github"))
+    yield Case("rlt fix --diff, report " + name, "rlt", ["fix", "--from", path, "--diff"], shown, refused=refused, diff=True)
+    if not refused:
+        yield Case("rlt confirm, report " + name, "rlt", ["confirm", "--from", path, "--longest", "500"], shown)
 
 
 def reports(folder: Path, outside: Path) -> List[Case]:
-    """Every hostile report, for each tool that reads one."""
+    """Every hostile report, for each word that reads one."""
     found: List[Case] = []
     for number, given in enumerate([*inputs.no_reports(), *inputs.odd_reports(str(outside / "secret.py"))]):
         found += _for_reports(given, _kept(folder, "report-%d.json" % number, given.data))
     for name in ("fifo.py", "/dev/zero", "link_zero.py", "link_out.py", "locked/file.py", "locked", "none.json"):
-        found.append(Case("relint-mend --report " + name, "mend", ["--report", name], REFUSED, refused=True))
-        found.append(Case("relint-many --join " + name, "many", ["--join", name], REFUSED, refused=True))
+        found.append(Case("rlt --from " + name, "rlt", ["--from", name], STOPPED, refused=True))
     return found
 
 
@@ -84,40 +81,43 @@ def _kept(folder: Path, name: str, data: bytes) -> str:
 
 
 def options(folder: Path, program: Path) -> List[Case]:
-    """Settings, baselines, certificates and notebooks, for the program and for what hands them on to it."""
+    """Settings, baselines and certificates for the program; configurations, accepted files and notebooks for rlt."""
     found: List[Case] = []
-    stops = frozenset([2, 3])
     for option, givens in (("settings", inputs.settings()), ("baseline", inputs.baselines())):
         for given in givens:
             path = _kept(folder, "%s-%s" % (option, given.name), given.data)
-            words = ["--" + option, path, "finding.py"]
-            found.append(Case("relint check --%s %s" % (option, given.name), "", [str(program), "check", *words], REFUSED,
+            found.append(Case("relint check --%s %s" % (option, given.name), "", [
+                str(program), "check", "--" + option, path, "finding.py"], REFUSED, refused=True))
+    for given in (*inputs.settings(), *inputs.configurations()):
+        # (a configuration lies in a folder of its own, whose accepted file it may name)
+        (folder / ("config-" + given.name)).mkdir(exist_ok=True)
+        path = _kept(folder / ("config-" + given.name), "relint.toml", given.data)
+        found.append(Case("rlt --config, " + given.name, "rlt", ["--config", path, "finding.py"], REFUSED, refused=True))
+    for given in inputs.accepted():
+        path = _kept(folder, "accepted-" + given.name, given.data)
+        found.append(Case("rlt --accepted, " + given.name, "rlt", ["--accepted", path, "finding.py"], STOPPED, refused=True))
+    for name in ("fifo.py", "/dev/zero", "link_zero.py", "locked/file.py", "locked", "none"):
+        for option in ("config", "accepted"):
+            found.append(Case("rlt --%s %s" % (option, name), "rlt", ["--" + option, name, "finding.py"], STOPPED,
                               refused=True))
-            found.append(Case("relint-show --%s %s" % (option, given.name), "show", words, stops, refused=True))
-        for name in ("fifo.py", "/dev/zero", "link_zero.py", "locked/file.py", "locked", "none"):
-            for tool in ("show", "page"):
-                found.append(Case("relint-%s --%s %s" % (tool, option, name), tool, ["--" + option, name, "finding.py"], stops,
-                                  refused=True))
     for given in inputs.certificates():
         path = _kept(folder, "certificate-" + given.name, given.data)
         found.append(Case("relint verify, certificate " + given.name, "", [str(program), "verify", "(a|a)*b", path], REFUSED,
                           refused=True))
     for given in inputs.notebooks():
         path = _kept(folder, "notebook-%s.ipynb" % given.name, given.data)
-        found.append(Case("relint-show, notebook " + given.name, "show", ["--all", "--", path], SHOWN))
+        found.append(Case("rlt, notebook " + given.name, "rlt", ["--all", "--", path], SHOWN))
     return found
 
 
 def sources(folder: Path) -> List[Case]:
-    """Sources that parsers choke on, for the tools that read sources."""
+    """Sources that parsers choke on, for the words that read sources."""
     found: List[Case] = []
     for given in inputs.sources():
         path = _kept(folder, "source-%s.py" % "".join(it if it.isalnum() else "_" for it in given.name), given.data)
-        found.append(Case("relint-show, source " + given.name, "show", ["--all", "--", path], SHOWN))
-        found.append(Case("relint-page, source " + given.name, "page", ["--", path], WRITTEN, raw=True))
-        report = inputs.report(inputs.entry(path=path, line=3))
-        found.append(Case("relint-mend, source " + given.name, "mend",
-                          ["--seconds", "1", "--tries", "2", "--report", "-", "--diff"], SHOWN, report, diff=True))
+        found.append(Case("rlt, source " + given.name, "rlt", ["--all", "--", path], SHOWN))
+        found.append(Case("rlt --format html, source " + given.name, "rlt", ["--format", "html", "--", path], SHOWN, raw=True))
+        found.append(Case("rlt fix --diff, source " + given.name, "rlt", ["fix", "--diff", "--", path], SHOWN, diff=True))
     return found
 
 

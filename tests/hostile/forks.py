@@ -1,4 +1,4 @@
-"""Runs tools in many processes that begin at once, as each is split off from one that has the tools loaded.
+"""Runs rlt in many processes that begin at once, as each is split off from one that has the command loaded.
 
     PYTHON -I -B forks.py FOLDER AT_ONCE <jobs
 
@@ -20,8 +20,7 @@ import time
 import traceback
 from typing import Any, Dict, List, NoReturn, Optional, Tuple
 
-TOOLS = {"show": "relint.show", "page": "relint.page", "confirm": "relint.confirm", "many": "relint.many",
-         "mend": "relint.mend.command"}
+TOOLS = {"rlt": "relint.cli"}
 PAUSE = 0.002
 
 
@@ -53,7 +52,7 @@ def _limit(job: Dict[str, Any]) -> None:
 
 def _status_of(tool: Any, words: List[str]) -> int:
     """Runs a tool's main, and answers what the process would end with."""
-    sys.argv = ["relint-tool", *words]
+    sys.argv = ["rlt", *words]
     try:
         found = tool.main()
     except SystemExit as end:

@@ -1,4 +1,4 @@
-"""Hostile files that tools are given: reports, settings, baselines, certificates, notebooks and sources."""
+"""Hostile files: reports, settings, configurations, baselines, accepted files, certificates, notebooks and sources."""
 from __future__ import annotations
 
 import json
@@ -31,7 +31,6 @@ def report(*entries: Any, **changed: Any) -> bytes:
     """A report of these entries."""
     whole: Dict[str, Any] = {"entries": list(entries), "findings": len(entries), "refused": 0, "undecided": 0, "version": 2}
     whole.update(changed)
-    # (in the layout of relint, which relint-many takes apart as it is)
     return json.dumps(whole, sort_keys=True, separators=(",", ":")).encode("ascii") + b"\n"
 
 
@@ -131,6 +130,32 @@ def settings() -> List[Given]:
         "twice": b"report = 2\nreport = 1\n", "nan": b"max-degree = nan\n", "big": b"# " + b"x" * 3_000_000 + b"\n\x1b",
     }
     return [Given(name, data, True) for name, data in texts.items()]
+
+
+def configurations() -> List[Given]:
+    """Configurations that would write, read or run what they may not, or that aren't in the form: each is refused."""
+    texts = {
+        "accepted-outside": b'accepted = "../home_bash_profile"\n', "accepted-absolute": b'accepted = "/etc/passwd"\n',
+        "accepted-nul": b'accepted = "a\\u0000b"\n', "paths-outside": b'paths = ["../../secret"]\n',
+        "paths-absolute": b'paths = ["/etc"]\n', "paths-number": b"paths = 1\n", "takers-outside": b'takers = ["../x.toml"]\n',
+        "takers-absolute": b'takers = ["/etc/passwd"]\n', "exclude-text": b'exclude = "x"\n',
+        "max-degree-minus": b"max-degree = -1\n", "max-pairs-zero": b"max-pairs = 0\n", "jobs-text": b'jobs = "9"\n',
+        "seconds-minus": b"seconds = -1\n", "strict-number": b"strict = 1\n", "format": b'format = "html"\n',
+        "write": b'write = ["html=../x"]\n', "escape": b'"\\u001b[2J" = 1\n',
+    }
+    return [Given(name, data, True) for name, data in texts.items()]
+
+
+def accepted() -> List[Given]:
+    """Accepted files that aren't in the form."""
+    names = ("no-json", "null", "list", "cut", "bytes", "nul", "deep-lists", "deep-objects", "digits", "nan")
+    rows = {
+        "row-null": b'{"accepted": [null], "version": 1}', "row-number": b'{"accepted": [1], "version": 1}',
+        "row-empty": b'{"accepted": [{}], "version": 1}', "version-9": b'{"accepted": [], "version": 9}',
+        "path-number": b'{"accepted": [{"path": 1, "pattern": "r\\"a\\"", "mode": "search",'
+                       b' "class": "exponential"}], "version": 1}',
+    }
+    return [it for it in no_reports() if it.name in names] + [Given(name, data, True) for name, data in rows.items()]
 
 
 def baselines() -> List[Given]:

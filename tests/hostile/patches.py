@@ -1,4 +1,4 @@
-"""What `relint-mend --diff` writes is given to `patch` and to `git apply`: only the files of the report may change."""
+"""What `rlt fix --diff` writes is given to `patch` and to `git apply`: only the files that were named may change."""
 from __future__ import annotations
 
 import os
@@ -8,7 +8,7 @@ from pathlib import Path
 from typing import Dict, List, Sequence, Tuple
 
 from hostile import tree
-from hostile.runs import SHOWN, Place, report_of
+from hostile.runs import SHOWN, Place
 from hostile.watch import Run, Watch
 
 APPLIERS: Dict[str, List[str]] = {"patch": ["patch", "-p1", "-f", "-s"], "git": ["git", "apply", "-p1", "--unsafe-paths"]}
@@ -23,18 +23,16 @@ def _paths(made: tree.Repository) -> List[str]:
 
 
 def _is_allowed(path: str, named: Sequence[str]) -> bool:
-    """Whether a patch may change a path: a source of the report, or a folder above one, which a patch may make."""
+    """Whether a patch may change a path: a source that was named, or a folder above one, which a patch may make."""
     return path in named or any(it.startswith(path + "/") for it in named) or path.endswith((".orig", ".rej"))
 
 
 def judged(watch: Watch, place: Place, names: Sequence[str]) -> List[Tuple[str, List[str]]]:
-    """Applies what relint-mend writes over every source by each of these programs, and says what changed that mustn't."""
+    """Applies what rlt fix writes over every source by each of these programs, and says what changed that mustn't."""
     paths = _paths(watch.made)
-    words = place.tool("mend", "--seconds", "2", "--tries", "4", "--report", "-", "--diff")
-    # (each file is judged some times, which takes long on a busy machine)
-    run = Run("relint-mend --diff", words, SHOWN, input=report_of(place, paths), diff=True)
+    run = Run("rlt fix --diff", place.rlt("fix", "--diff", "--", *paths), SHOWN, diff=True)
     diff = watch.run(run).out.encode("utf-8", "surrogateescape")
-    return [("relint-mend --diff, given to " + name, _complaints(watch, name, diff, paths)) for name in names]
+    return [("rlt fix --diff, given to " + name, _complaints(watch, name, diff, paths)) for name in names]
 
 
 def _complaints(watch: Watch, name: str, diff: bytes, paths: Sequence[str]) -> List[str]:

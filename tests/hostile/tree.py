@@ -27,9 +27,9 @@ NAMES = [
 # Patterns whose own text could do the same.
 PATTERNS = ["(\x1b]0;FORGED\x07|a|a)*b", "(\u202egnp|a|a)*b", "(::error::FORGED|a|a)*b", "(##[error]FORGED|a|a)*b",
             "(\u009b31m|a|a)*b", "(%0A|a|a)*b", "('\"`$PATH|a|a)*b", "(\u2028|\u0085|a|a)*b"]
-MODULES = ["re", "json", "ast", "os", "typing", "argparse", "tokenize", "sitecustomize", "usercustomize", "warnings",
+MODULES = ["relint", "re", "json", "ast", "os", "typing", "argparse", "tokenize", "sitecustomize", "usercustomize", "warnings",
            "tomllib"]
-PROGRAMS = ["relint", "relint-show", "python3", "python", "git", "grep", "mktemp", "sed", "bash", "cat", "rt"]
+PROGRAMS = ["relint", "relint-ask", "rlt", "python3", "python", "git", "grep", "mktemp", "sed", "bash", "cat", "rt"]
 _SHELL_NAMES = ["$(: >%s).py", "`: >%s`.py", ";: >%s;.py"]
 
 

@@ -195,11 +195,9 @@ def commands(text: str) -> List[Tuple[str, str]]:
 
 
 def scripts(folder: Path, python: str, program: Path, top: Path) -> None:
-    """Puts relint, its tools and the Python of the tools into a folder for PATH."""
+    """Puts relint, rlt and the Python of the tools into a folder for PATH."""
     folder.mkdir(parents=True, exist_ok=True)
     quoted = "'%s'"
-    forwards = {"relint": quoted % program, "python3": quoted % python}
-    for path in sorted((top / "tools").glob("relint-*")):
-        forwards[path.name] = "%s -B %s" % (quoted % python, quoted % path)
+    forwards = {"relint": quoted % program, "python3": quoted % python, "rlt": quoted % (top / "tools" / "rlt")}
     for name, command in forwards.items():
         tree.write(folder / name, '#!/bin/sh\nexec %s "$@"\n' % command, 0o755)

@@ -2,7 +2,6 @@
 from __future__ import annotations
 
 import contextlib
-import io
 import os
 import subprocess
 import sys
@@ -10,23 +9,11 @@ import tempfile
 from pathlib import Path
 from typing import Dict, Iterator, Mapping, NamedTuple, Optional
 
-from relint import program
+from relint.engine import program
 
 TOP = Path(__file__).resolve().parents[2]
 # (what a developer's own cache holds changes no test)
 os.environ["XDG_CACHE_HOME"] = os.path.join(tempfile.gettempdir(), "relint-tests-have-no-cache")
-# As used, the first pattern is no finding, the second one is worse than in a search, and the third one stays as it is.
-USED = r"""import re
-
-FLAGS = re.compile(r"a*a*,")
-TAIL = re.compile(r"(?:a|aa)*")
-ROW = re.compile(r"x*x*y")
-
-def read(line):
-    m = FLAGS.match(line)
-    ROW.search(line)
-    return TAIL.fullmatch(line)
-"""
 
 
 class Ran(NamedTuple):
@@ -40,19 +27,10 @@ class Ran(NamedTuple):
 def no_program() -> str:
     """Returns why there is no program to run, or nothing where there is one."""
     try:
-        program.program()
+        program.located("relint")
     except program.ProgramError as error:
         return str(error)
     return ""
-
-
-def why_checked(reason: str) -> str:
-    """Returns what the tools say of spans that are checked for this reason; without relint-spans that is the reason."""
-    try:
-        program.program(program.SPANS)
-    except program.ProgramError as error:
-        reason = str(error)
-    return f"checked: {reason}" if reason else "proved"
 
 
 @contextlib.contextmanager
@@ -72,9 +50,9 @@ def folder(files: Mapping[str, object]) -> Iterator[Path]:
 
 
 def tool(name: str, *words: str, given: Optional[bytes] = None, environment: Optional[Dict[str, str]] = None) -> Ran:
-    """Runs a tool of tools/ in a process of its own."""
+    """Runs a script of tools/, or of the folder that the name begins with, in a process of its own."""
     ran = subprocess.run(
-        [sys.executable, str(TOP / "tools" / name), *words],
+        [sys.executable, str(TOP / (name if "/" in name else f"tools/{name}")), *words],
         input=given if given is not None else b"",
         stdout=subprocess.PIPE,
         stderr=subprocess.PIPE,
@@ -82,11 +60,3 @@ def tool(name: str, *words: str, given: Optional[bytes] = None, environment: Opt
         timeout=1200,
     )
     return Ran(ran.returncode, ran.stdout.decode("utf-8"), ran.stderr.decode("utf-8"))
-
-
-@contextlib.contextmanager
-def silent() -> Iterator[io.StringIO]:
-    """Keeps what is written to standard error."""
-    kept = io.StringIO()
-    with contextlib.redirect_stderr(kept):
-        yield kept

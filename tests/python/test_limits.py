@@ -1,4 +1,4 @@
-"""The limits in docs/USAGE.md: each number in it is that of the constant which decides."""
+"""The limits in docs/RELINT.md: each number in it is that of the constant which decides."""
 from __future__ import annotations
 
 import re
@@ -7,7 +7,7 @@ from pathlib import Path
 from typing import Dict
 
 TOP = Path(__file__).resolve().parents[2]
-PAGE = TOP / "docs" / "USAGE.md"
+PAGE = TOP / "docs" / "RELINT.md"
 CONSTANT = re.compile(r"^ *(?:pub(?:\(crate\))? )?const ([A-Z_]+): [a-z0-9]+ = ([0-9_]+);$", re.MULTILINE)
 NUMBER = re.compile(r"[0-9][0-9,]*")
 # the constant that decides, for what a line names first

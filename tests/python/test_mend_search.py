@@ -1,121 +1,173 @@
-"""The search for cures: what it finds, and what it must never find."""
+"""The search for cures: what it finds, what it must never find, and what is offered."""
 from __future__ import annotations
 
 import os
 import random
 import re
+import sys
+import time
 import unittest
-from typing import Iterator, List, Tuple, Union
+from dataclasses import replace
+from types import SimpleNamespace
+from typing import Iterator, List, Tuple
+from unittest import mock
 
-from mend_support import with_relint
-from show_support import why_checked
-from relint.mend import Cure, Limits, cures, mend
-from relint.mend.alphabet import Alphabet
-from relint.mend.asking import Asker
-from relint.mend.judge import Judge, Judgement
+from engine_support import missing
+from relint.base.model import Bound, Entry, Finding, Literal, Offer, Place, Site, Text, Use, Uses, Verdict
+from relint.engine.ask import Asker
+from relint.mend import offers, search
+from relint.mend.nodes import CHOICE, ROW, Alphabet, Node, choice, row
 from relint.mend.rules import Rule
-from relint.mend.same import how_of
-from relint.mend.search import Search
-from relint.mend.tree import Choice, Concat, Node, Repeat, choice, concat, repeat
+from relint.mend.search import EVERY_METHOD, How
+from relint.options import Options
+from relint.trials.trial import Trial
 
-# A pattern, its flags, its call, and what its best cure is: the pattern, the class and the tier.
-CURED: List[Tuple[Union[str, bytes], int, str, Union[str, bytes], str, str]] = [
-    (r"^(?P<suffix>[A-Z]+)*$", 0, "compile", r"^(?P<suffix>[A-Z]+)?$", "degree 1", "a"),
-    (r"(?:a+)+b", 0, "search", r"a+b", "degree 2", "a"),
-    (r"^([A-Za-z]:)?/(.*/)*[^./]+$", 0, "compile", r"^([A-Za-z]:)?/(.*/)?[^./]+$", "degree 1", "a"),
-    (rb"^(\w+)*$", 0, "match", rb"^(\w+)?$", "degree 1", "a"),
+NO_ASK = missing("relint-ask")
+ASKER = Asker(Options())
+ONE = {it: How(frozenset([it]), 0, False, worst=it if it in ("match", "fullmatch") else "search") for it in EVERY_METHOD}
+TRUTH = How(frozenset(["search"]), 0, False, "truth")
+# A pattern, its uses, and what it becomes.
+FIXED: List[Tuple[Text, How, Text]] = [
+    (r"^(?P<suffix>[A-Z]+)*$", How(), r"^(?P<suffix>[A-Z]+)?$"),
+    (r"^(\w+,?)*$", ONE["search"], r"^(?:(?:\w+,)*(\w+,?))?$"),
+    (r"\s+(.+), subnet", ONE["search"], r"\s+(\S.*|[^\S\n]), subnet"),
+    (rb"^(\w+)*$", ONE["match"], rb"^(\w+)?$"),
+    (r".*warn.*disk", TRUTH, r"warn.*disk"),
+    (r"%(\w+).*;?\t(.*)!", ONE["search"], r"%(\w+).*;?\t([^\t\n]*)!"),
+    (r"([\(,])\s*(\d.*?)\s*([,\)])", How(), r"([\(,])\s*(\d(?:.*?\S)??)\s*([,\)])"),
+    ("(?x)^ ( [A-Z]+ )* # letters\n $", ONE["match"], "(?x)^ ( [A-Z]+ )? # letters\n $"),
 ]
+
+
+def found(pattern: Text, how: How, seconds: float = 30.0) -> List[search.Cure]:
+    return offers.cures_of(pattern, how, ASKER, time.monotonic() + seconds)
+
+
+@unittest.skipIf(NO_ASK, NO_ASK)
+class Found(unittest.TestCase):
+    def test_fixes(self) -> None:
+        for pattern, how, wanted in FIXED:
+            with self.subTest(pattern=pattern):
+                cures = found(pattern, how)
+                self.assertEqual([(it.pattern, it.differs, it.hard_to_read) for it in cures], [(wanted, "", False)])
+                self.assertLessEqual(cures[0].top, 2)
+
+    def test_what_differs_is_said_in_a_clause(self) -> None:
+        said = {it.differs for pattern, how in (
+            (r'"(\\.|[^"\\]+)*"', ONE["search"]), (r".*<b>(.*)</b>.*", How(frozenset(["search"]), 0, True)),
+            (r"https?://(.+)\.ddb\.(.+)\.com", ONE["search"])) for it in found(pattern, how)}
+        self.assertTrue(any(it.startswith("same texts, but group 1 holds ") for it in said), said)
+        self.assertTrue(any(it == "the same, unless the call is given a position" for it in said), said)
+        self.assertTrue(any(it.startswith("it no longer matches ") for it in said), said)
+
+    def test_a_position_decides_between_fix_and_advice(self) -> None:
+        pattern = r".*<b>(.*)</b>.*"
+        self.assertEqual(found(pattern, ONE["search"])[0].pattern, r"(?m:^).*<b>(.*)</b>.*")
+        self.assertNotEqual(found(pattern, How(frozenset(["search"]), 0, True))[0].differs, "")
+
+    def test_a_run_before_a_word_stops_there(self) -> None:
+        pattern = r"^a/(.+?)/locations/(.+?)/builds/(.+?)$"
+        for how, wanted, needs in (
+                (ONE["match"], r"^a/(.(?:(?!/locations/).)*?)/locations/(.+?)/builds/(.+?)$", ""),
+                (replace(ONE["match"], has_atomic=True), r"^a/(?>(.+?)/locations/)(.+?)/builds/(.+?)$", "3.11")):
+            if needs and sys.version_info < (3, 11):
+                continue
+            cure = found(pattern, how)[0]
+            self.assertEqual((cure.pattern, cure.is_proved, bool(cure.differs)), (wanted, False, not needs))
+
+    def test_a_pattern_that_loses_little_is_advice(self) -> None:
+        for pattern, wanted in ((r"^(([a-z])+.)+[A-Z]([a-z])+$", r"^(([a-z])+\.)+[A-Z]([a-z])+$"),
+                                (r"^(.*?,){11}P", r"^([^,\n]*?,){11}P")):
+            cure = found(pattern, ONE["match"])[0]
+            self.assertEqual((cure.pattern, cure.rank), (wanted, search.MISSED))
+            lost = re.fullmatch(r'it no longer matches "(.*)"', cure.differs)
+            assert lost is not None
+            self.assertTrue(re.match(pattern, lost[1]) and not re.match(str(cure.pattern), lost[1]))
+
+    def test_a_blank_behind_flags_is_a_part(self) -> None:
+        self.assertEqual(search._between("(?i) a", "\\A", "", False), "(?i)\\A(?: a)")
+        self.assertEqual(search._between("(?x) (?i) a # b", "\\A", "\\Z", True), "(?x) (?i)\\A(?: a # b\n)\\Z")
+        self.assertEqual(search._between(rb"a|b", "\\A", "", False), rb"\A(?:a|b)")
+
+    def test_a_suggestion_with_other_groups_is_none(self) -> None:
+        for pattern, suggestion, wanted in ((r"^((a+)|b)+$", r"^(a+|b)+$", False), (r"^(?:a|a)*b$", r"^a*b$", True)):
+            with mock.patch.object(search, "RULES", ()), mock.patch.object(search, "WHOLE", ()):
+                cures = offers.cures_of(pattern, TRUTH, ASKER, time.monotonic() + 9, suggestion)
+            self.assertEqual([it.pattern for it in cures if it.steps == ("suggestion",)], [suggestion] * wanted)
+
+    def test_nothing_to_mend(self) -> None:
+        for pattern in ("a+", "(a|b)*c", "(?=a)(a+)+$", "(", "(?i)[^]"):
+            self.assertEqual(found(pattern, How()), [])
+
+    def test_hostile_patterns_take_no_longer(self) -> None:
+        nested = "(?:" * 12 + r"\b" + "){40}" * 12 + "(a+)+$"
+        letters = "".join(map(chr, range(256, 3000)))
+        for pattern in (nested, "(?:a|b)*" * 300 + "$", "(" * 90 + "a*" + ")*" * 90, f"[{letters}]+a+a+$",
+                        "(?x)" + "a+ #\n" * 600 + "$"):
+            begun = time.monotonic()
+            found(pattern, How(), 2.0)
+            self.assertLess(time.monotonic() - begun, 12, pattern[:30])
+
+    def test_no_time_is_no_cure(self) -> None:
+        self.assertEqual(found(r"^(\w+,?)*$", ONE["search"], -1.0), [])
 
 
 def ruined(node: Node, alphabet: Alphabet) -> Iterator[Node]:
     """A false rule: the last branch of a choice goes, and so does the last part of a row."""
-    if isinstance(node, Choice):
-        yield choice(node.branches[:-1])
-    if isinstance(node, Concat) and len(node.items) > 1:
-        yield concat(node.items[:-1])
-
-
-def lazy(node: Node, alphabet: Alphabet) -> Iterator[Node]:
-    """A rule that keeps the texts of fullmatch alone, and changes the spans."""
-    if isinstance(node, Repeat) and node.endless:
-        yield repeat(0, 1, False, node.body)
+    if node.kind == CHOICE:
+        yield choice(node.items[:-1])
+    if node.kind == ROW and len(node.items) > 1:
+        yield row(node.items[:-1])
 
 
 FALSE = (Rule("ruined", 0, ruined, ("a|b", "a")),)
-LAZY = (Rule("lazy", 0, lazy, ("(a*)*", "(a*)??")),)
 
 
-class Found(unittest.TestCase):
-    @with_relint
-    def test_cures(self) -> None:
-        for pattern, flags, call, wanted, verdict, tier in CURED:
-            with self.subTest(pattern=pattern):
-                mode = call if call in ("match", "fullmatch") else "search"
-                best = cures(pattern, flags, mode, (call,))[0]
-                self.assertEqual((best.pattern, best.verdict.words(), best.tier), (wanted, verdict, tier))
-
-    @with_relint
-    def test_tiers_are_said_in_words(self) -> None:
-        first = cures(r"^([A-Za-z]:)?/(.*/)*[^./]+$")[0]
-        self.assertEqual(first.words(), f"same texts (proved), same spans and groups ({why_checked('')})")
-        judged = Judge(r"(a)*", how_of(["search"])).judge(r"(a*)")
-        second = Cure("(a*)", first.verdict, judged.tier, first.before, ("nest",), judged)
-        known = why_checked("relint-spans compares groups too")
-        self.assertRegex(second.words(), rf"\Asame texts \(proved\), same spans \({known}\), groups differ: group 1 takes ")
-        loose = cures(r'"(\\\\|\\"|[^"])*"')[-1]
-        self.assertEqual(loose.tier, "c")
-        self.assertIn("spans differ: only advice on ", loose.words())
-
-    @with_relint
-    def test_compile_asks_for_all_modes(self) -> None:
-        asker = Asker()
-        outcome = mend(r"x(?:a+)+$", asker=asker)
-        best = outcome.best()
-        assert best is not None
-        for mode in ("fullmatch", "match", "search"):
-            self.assertEqual(asker.compare(r"x(?:a+)+$", best.pattern, 0, mode).relation, "equal")
-
-    @with_relint
-    def test_a_line_anchor_says_that_no_position_may_be_given(self) -> None:
-        best = cures(r".*<b>(.*)</b>.*")[0]
-        self.assertEqual((best.pattern, best.tier), (r"(?m:^).*<b>(.*)</b>.*", "a"))
-        self.assertIn("where no position is given", best.words())
-
-    @with_relint
-    def test_where_no_cure_comes_the_loop_at_fault_is_told(self) -> None:
-        outcome = mend(r"x(?:\w+|ab)*y", limits=Limits(tries=0))
-        self.assertEqual((outcome.cures, outcome.faults), ([], [r"(?:\w+|ab)*"]))
-
-
+@unittest.skipIf(NO_ASK, NO_ASK)
 class Refused(unittest.TestCase):
-    @with_relint
-    def test_a_false_rule_gives_nothing(self) -> None:
-        for pattern in (r"(?:a+|b+)*c", r"x(?:\w+\s?)*y", r"(?:a|ab|b)*"):
-            with self.subTest(pattern=pattern):
-                outcome = Search(pattern, "search", how_of(["compile"]), Limits(), Asker(), FALSE).run()
-                self.assertEqual(outcome.cures, [])
+    def test_a_false_rule_gives_no_fix(self) -> None:
+        with mock.patch.object(search, "RULES", FALSE), mock.patch.object(search, "WHOLE", ()):
+            for pattern in (r"(?:a+|b+)*c", r"x(?:\w+\s?)*y", r"(?:ab|ba|b)*d", r"(a*)*b"):
+                for cure in found(pattern, ONE["search"]):
+                    self.assertNotEqual(cure.differs, "", (pattern, cure))
 
-    @with_relint
-    def test_a_rule_that_changes_spans_gives_no_more_than_advice(self) -> None:
-        outcome = Search(r"(?:a*)*", "search", how_of(["search"]), Limits(), Asker(), LAZY).run()
-        self.assertEqual({it.tier for it in outcome.cures} - {"c"}, set())
+    def test_without_trials_too(self) -> None:
+        blind = mock.patch.object(Trial, "kinds", lambda self, patterns, seconds: (["a"] * len(patterns), 0))
+        with blind, mock.patch.object(search, "RULES", FALSE), mock.patch.object(search, "WHOLE", ()):
+            for cure in found(r"(?:a+|b+)*c", ONE["search"]):
+                self.assertNotEqual(cure.differs, "")
 
-    def test_destructive_rewrites_are_seen(self) -> None:
-        pattern = r"(?P<service>.*?)\s+on"
-        self.assertEqual(Judge(pattern, how_of(["search"])).judge(r"(?P<service>)\son").tier, "c")
-        self.assertEqual(Judge(r'"(\\"|[^"])*"', how_of(["search"])).judge(r'"(\\.|[^"])*"').tier, "c")
+    def test_a_class_that_is_only_bounded_counts_as_its_worst(self) -> None:
+        low = Bound("degree", 1, "search-costs-its-match")
+        self.assertEqual(search._rank(Verdict("undecided", limit="pairs", at_least=low)), search.EXPONENTIAL)
+        self.assertEqual(search._rank(Verdict("undecided", at_least=low, at_most=Bound("degree", 2, "one-degree-more"))), 2)
+        self.assertEqual((search._rank(None), search._rank(Verdict("degree", 0))), (search.EXPONENTIAL, 0))
 
-    def test_what_is_tried_is_what_the_tier_says(self) -> None:
-        judge = Judge("a", how_of(["compile"]))
-        self.assertEqual(judge.views(Judgement("c")), ["match", "fullmatch", "search"])
-        self.assertEqual(judge.views(Judgement("b", position=False)), ["match", "fullmatch", "search", "finditer"])
-        self.assertEqual(judge.views(Judgement("a"))[-1], "position")
-        self.assertEqual(Judge("a", how_of(["findall"])).views(Judgement("c")), ["search"])
+    def test_an_answer_other_than_same_proves_nothing(self) -> None:
+        ask = ASKER.ask_all
 
-    def test_other_numbers_or_names_of_groups_are_no_tier_a(self) -> None:
-        self.assertEqual(Judge(r"(a)(b)", how_of(["search"])).judge(r"(a)b").tier, "b")
-        self.assertEqual(Judge(r"(?P<x>a)", how_of(["search"])).judge(r"(?P<y>a)").tier, "b")
-        self.assertEqual(Judge(r"(?P<x>a)", how_of(["search"])).judge(r"(?P<x>a)").tier, "a")
+        def lying(questions: "List[dict[str, object]]") -> "List[object]":
+            answers = ask(questions)
+            return [{"answer": "exceeded"} if it["ask"] == "spans" else one for it, one in zip(questions, answers)]
+        with mock.patch.object(ASKER, "ask_all", lying):
+            self.assertNotEqual([it.differs for it in found(r"^(\w+,?)*$", ONE["search"])][:1], [""])
+
+    def test_random_patterns_agree_with_re(self) -> None:
+        shuffled = random.Random(int(os.environ.get("RELINT_MEND_SEED", "20")))
+        for _ in range(int(os.environ.get("RELINT_MEND_PATTERNS", "6"))):
+            pattern = random_pattern(shuffled, 3)
+            try:
+                first: "re.Pattern[str]" = re.compile(pattern)
+                cures = found(pattern, ONE["search"], 3.0)
+            except re.error:
+                continue
+            for cure in cures:
+                assert isinstance(cure.pattern, str)
+                second = re.compile(cure.pattern)
+                for _ in range(200 if not cure.differs else 0):
+                    text = "".join(shuffled.choice('ab1 ,"\n-') for _ in range(shuffled.randrange(9)))
+                    one, other = first.search(text), second.search(text)
+                    self.assertEqual(one and [one.regs, one.lastindex], other and [other.regs, other.lastindex], pattern)
 
 
 def random_pattern(shuffled: random.Random, depth: int) -> str:
@@ -124,37 +176,74 @@ def random_pattern(shuffled: random.Random, depth: int) -> str:
         return shuffled.choice((r"\w", r"\s", ".", "a", "b", "[^,]", r"\d", "[ab]", ",", r"\b", "(?m:^)", '"', r"\\"))
     if pick < 0.5:
         return "".join(random_pattern(shuffled, depth - 1) for _ in range(3))
-    if pick < 0.55:
-        around = shuffled.choice(("(?:|{})", "(?:{}|)", "()*{}", "(?:(?:)?{})*", "{}|", "(?P<n>{})"))
-        return around.format(random_pattern(shuffled, 1))
     if pick < 0.65:
         return f"(?:{random_pattern(shuffled, depth - 1)}|{random_pattern(shuffled, depth - 1)})"
     if pick < 0.75:
         return f"({random_pattern(shuffled, depth - 1)})"
-    sign = shuffled.choice(("*", "+", "*", "?", "{2,}", "*?", "{1,3}"))
-    return f"(?:{random_pattern(shuffled, depth - 1)}){sign}"
+    return f"(?:{random_pattern(shuffled, depth - 1)}){shuffled.choice(('*', '+', '*', '?', '{2,}', '*?', '{1,3}'))}"
 
 
-def ran_over(count: int, seed: int, limits: Limits) -> Iterator[str]:
-    """Mends that many random patterns; yields those whose search ran over its limits."""
-    shuffled, asker = random.Random(seed), Asker()
-    for _ in range(count):
-        pattern = random_pattern(shuffled, 3)
-        asker.forget()
-        try:
-            re.compile(pattern)
-        except re.error:
-            continue
-        outcome = mend(pattern, shuffled.choice((0, re.I, re.S, re.M)), "search", ("search",), limits, asker)
-        if outcome.tries > limits.tries:
-            yield pattern
+def finding(pattern: str, uses: "Uses | None" = None, call: str = "compile", mode: str = "search") -> Finding:
+    literal = f'r"{pattern}"'
+    entry = Entry("a.py", "exponential", Place(2, 3), call, Verdict("exponential"))
+    return Finding(entry, mode=mode, site=Site(pattern, 0, (Literal(literal, 0, len(literal)),)), uses=uses)
 
 
-class Many(unittest.TestCase):
-    @with_relint
-    def test_random_patterns(self) -> None:
-        count = int(os.environ.get("RELINT_MEND_PATTERNS", "6"))
-        self.assertEqual(list(ran_over(count, 20, Limits(tries=10, steps=2, work=500, texts=100))), [])
+class Uses_(unittest.TestCase):
+    def test_what_the_uses_ask_for(self) -> None:
+        self.assertEqual(offers.how_of(finding("a"), 2), How())
+        self.assertEqual(offers.how_of(finding("a", Uses(lost="it is passed on")), 2), How())
+        wanted = How(frozenset(["match"]), 0, False, "groups", worst="match", max_degree=3)
+        self.assertEqual(offers.how_of(finding("a", call="match", mode="match"), 3), wanted)
+        uses = Uses((Use("match", "a.py", 1, sees="truth"), Use("sub", "a.py", 2, sees="spans")))
+        self.assertEqual(offers.how_of(finding("a", uses), 2), How(frozenset(["match", "sub"]), 0, False, "spans"))
+        self.assertTrue(offers.how_of(finding("a", Uses((Use("match", "a.py", 1, repeated=True),))), 2).position)
+
+    def offered(self, found: Finding) -> Tuple[Offer, ...]:
+        run = SimpleNamespace(asker=ASKER, options=Options(), deadline=time.monotonic() + 30, chosen=SimpleNamespace(root="/"))
+        return offers.offers(found, run)
+
+    @unittest.skipIf(NO_ASK, NO_ASK)
+    def test_offers(self) -> None:
+        made = self.offered(finding(r"^(\w+,?)*$", Uses((Use("search", "a.py", 1),))))
+        self.assertEqual([(it.kind, it.literal, it.proof, it.differs) for it in made],
+                         [("fix", r'r"^(?:(?:\w+,)*(\w+,?))?$"', "proved", "")])
+        read = self.offered(finding(r"^(\w+,?)*$", Uses((Use("search", "a.py", 1),), is_read=True)))
+        self.assertEqual([(it.kind, it.differs) for it in read], [("advice", offers.READ)])
+        self.assertEqual(self.offered(Finding(finding("(a+)+b").entry)), ())
+
+    @unittest.skipIf(NO_ASK, NO_ASK)
+    def test_what_is_still_a_finding_is_no_fix(self) -> None:
+        made = self.offered(finding(r"<([^>]*\srel\s*=\s*['\"]?([^'\">]+)[^>]*)>", Uses((Use("search", "a.py", 1),))))
+        self.assertEqual([it.kind for it in made][:1], ["better"])
+
+
+class Trials(unittest.TestCase):
+    def setUp(self) -> None:
+        self.trial = Trial()
+        self.addCleanup(self.trial.close)
+
+    def test_kinds(self) -> None:
+        self.trial.begin("(a)|(ab)", 0, ["search", "finditer"], ["", "a", "ab", "xab"])
+        self.assertEqual(self.trial.kinds(["(a)|(ab)", "(a)()", "ab|a", "b", "(", "a|ab"])[0], ["a", "b", "c", "-", "-", "b"])
+
+    def test_bytes_and_hostile_patterns(self) -> None:
+        self.trial.begin(b"\xff+", 0, ["match"], ["\xff\xff", "\u0100", "a"])
+        self.assertEqual(self.trial.kinds([b"\xff", b"[\xfe-\xff]+"])[0], ["c", "a"])
+        begun = time.monotonic()
+        self.trial.begin("(a*)*b", 0, ["search"], ["a" * 60] * 20 + ["b"])
+        self.assertEqual(self.trial.kinds(["(?:a*)*c", "a*b"])[0], ["-", "b"])
+        self.assertLess(time.monotonic() - begun, 10)
+
+    def test_a_process_that_dies_says_nothing(self) -> None:
+        self.trial.begin("a", 0, ["search"], ["a"])
+        self.trial.kinds(["a"])
+        process = self.trial._process
+        assert process is not None
+        process.kill()
+        process.wait()
+        self.assertEqual(self.trial.kinds(["b"]), (["a"], 0))
+        self.assertEqual(self.trial.kinds(["b"]), (["-"], 1))
 
 
 if __name__ == "__main__":

@@ -1,4 +1,4 @@
-"""tools/plot: labels on the canvas, lines that can be told apart, titles, times of bench/growth, and mistakes."""
+"""bench/plot: labels on the canvas, lines that can be told apart, titles, times of bench/growth, and mistakes."""
 from __future__ import annotations
 
 import os
@@ -8,7 +8,7 @@ from pathlib import Path
 from typing import Dict, List, Tuple
 from xml.dom import minidom
 
-from relint import program
+from relint.engine import program
 from show_support import Ran, folder, no_program, tool
 
 NO_PROGRAM = no_program()
@@ -32,10 +32,10 @@ nothing
 
 
 def plotted(*words: str) -> Ran:
-    """A run of tools/plot with the stand-in."""
+    """A run of bench/plot with the stand-in."""
     with folder({"stand-in": STAND_IN, "times": TIMES}) as here:
         os.chmod(str(here / "stand-in"), 0o755)
-        return tool("plot", *words, *([] if "--times" in words else ["--program", "./stand-in"]))
+        return tool("bench/plot", *words, *([] if "--times" in words else ["--program", "./stand-in"]))
 
 
 def elements(chart: str, name: str) -> List[Dict[str, str]]:
@@ -120,13 +120,13 @@ class Mistakes(unittest.TestCase):
     def test_programs_that_cannot_be_asked(self) -> None:
         for name in ("./nothing", "/", "./times"):
             with folder({"times": TIMES}):
-                self.assert_refused(tool("plot", "--program", name, "a"), 1, rf"^plot: {name} can't be run: ")
-        self.assert_refused(tool("plot", "--program", "/bin/false", "a"), 1, "ended with status 1 and said nothing$")
+                self.assert_refused(tool("bench/plot", "--program", name, "a"), 1, rf"^plot: {name} can't be run: ")
+        self.assert_refused(tool("bench/plot", "--program", "/bin/false", "a"), 1, "ended with status 1 and said nothing$")
 
     def test_no_line_at_all(self) -> None:
         with folder({"stand-in": STAND_IN, "kept.svg": "old"}) as here:
             os.chmod(str(here / "stand-in"), 0o755)
-            ran = tool("plot", "--program", "./stand-in", "--output", "kept.svg", "undecided")
+            ran = tool("bench/plot", "--program", "./stand-in", "--output", "kept.svg", "undecided")
             self.assertEqual(Path("kept.svg").read_text(encoding="utf-8"), "old")
         self.assert_refused(ran, 1, "^plot: no pattern has a line, so there is no chart$")
 
@@ -149,7 +149,7 @@ class WithTheProgram(unittest.TestCase):
     """The lines of the program that is tested."""
 
     def test_a_degree_is_a_slope(self) -> None:
-        ran = tool("plot", "--program", program.program(), "a*", "a*a*")
+        ran = tool("bench/plot", "--program", program.located("relint"), "a*", "a*a*")
         self.assertEqual((ran.status, ran.err), (0, ""))
         slopes = []
         for line in elements(ran.out, "polyline"):

@@ -78,7 +78,8 @@ def reached(changes: Dict[str, str], *words: str) -> Ran:
         write(top / "kit", KIT)
         os.chmod(top / "kit" / "bin" / "rt", 0o755)
         (top / "tools").mkdir()
-        shutil.copy(TOP / "tools" / "reached", top / "tools" / "reached")
+        for name in ("reached", "book.py"):
+            shutil.copy(TOP / "tools" / name, top / "tools" / name)
         path = str(top / "kit" / "bin") + os.pathsep + os.environ["PATH"]
         command = [sys.executable, "-B", str(top / "tools" / "reached"), *words]
         env = {**os.environ, "PATH": path, "PYTHONIOENCODING": "utf-8"}

@@ -1,182 +1,129 @@
-"""The path of a team, from the first audit to a required check, in a scratch repository."""
+"""The path of a team, from the first look to a required check, in a scratch repository."""
 from __future__ import annotations
 
 import json
 import os
-import re
 import subprocess
-import sys
 import unittest
 from pathlib import Path
-from typing import BinaryIO, Dict, List
+from typing import List, Tuple
 
-import sarif_rules
-from relint import program
-from show_support import TOP, Ran, folder, no_program, tool
+from engine_support import folder, missing
+from screens_support import Ran, rlt
 
-NO_PROGRAM = no_program()
+WHY = missing("relint", "relint-ask")
 OLD = 'import re\n\nROW = re.compile(r"(\\w+\\s?)*$")\n'
-FILES: Dict[str, object] = {
-    "pyproject.toml": '[project]\nname = "ours"\n\n[tool.relint]\npaths = ["src"]\nexclude = ["generated"]\n'
-                      'baseline = "relint-baseline.json"\n',
-    "src/ours/rows.py": OLD,
-    "src/ours/dates.py": 'import re\n\nDATE = re.compile(r"\\d{4}-\\d\\d")\n',
-    "src/ours/generated/tables.py": 'import re\nre.search(r"(a|a)*b", "")\n',
-    "src/ours/build/made.py": 'import re\nre.search(r"(a|a)*b", "")\n',
-    "src/notes.ipynb": "{}",
-    ".gitignore": "build/\n",
+CONFIG = '[tool.relint]\npaths = ["src"]\nexclude = ["generated"]\n'
+FILES = {
+    "pyproject.toml": CONFIG, "src/rows.py": OLD, "src/dates.py": 'import re\n\nDATE = re.compile(r"\\d{4}-\\d\\d")\n',
+    "src/generated/tables.py": 'import re\nre.search(r"(a|a)*b", "")\n', "src/notes.ipynb": "{}",
 }
 
 
-def git(*words: str) -> None:
+def git(*words: str) -> str:
     """Runs git in the current folder."""
-    subprocess.run(["git", "-c", "user.name=a", "-c", "user.email=a@b", *words], check=True, stdout=subprocess.DEVNULL)
-
-
-def show(*words: str) -> Ran:
-    """A run of relint-show."""
-    return tool("relint-show", *words)
-
-
-def hook() -> Ran:
-    """What the hook runs: relint-show on the files that are staged."""
-    listed = subprocess.run(["git", "diff", "--cached", "--name-only", "-z", "--diff-filter=d", "--", "*.py"], check=True,
-                            stdout=subprocess.PIPE).stdout.decode("utf-8")
-    return show("--", *listed.split("\0")[:-1])
-
-
-def staged(path: str, text: str) -> Ran:
-    """What the hook says once a file with this text is staged."""
-    Path(path).write_text(text, encoding="utf-8")
-    git("add", path)
-    return hook()
+    named = ["-c", "user.name=a", "-c", "user.email=a@example.org", "-c", "commit.gpgsign=false"]
+    return subprocess.run(["git", *named, *words], check=True, stdout=subprocess.PIPE).stdout.decode()
 
 
 def heads(ran: Ran) -> List[str]:
-    """The lines that name findings."""
-    return [it for it in ran.out.splitlines() if re.match(r"\S+:\d+:\d+: ", it)]
+    """The places and rules of the findings of a run."""
+    return [" ".join(it.split()[:2]) for it in ran.out.splitlines() if ": RLT1" in it]
 
 
-@unittest.skipIf(NO_PROGRAM, NO_PROGRAM)
+def check(*words: str) -> Ran:
+    """A run of `rlt check` with a line a finding."""
+    return rlt("check", "--format=concise", *words)
+
+
+def changed(*words: str) -> Tuple[int, List[str]]:
+    """The status of the required check of a change, and its findings."""
+    git("add", "-A")
+    ran = check("--baseline-commit=main", "--locked", *words)
+    return ran.status, heads(ran)
+
+
+@unittest.skipIf(WHY, WHY)
 class Team(unittest.TestCase):
-    """One test, as each step needs those before it."""
+    """Each step needs those before it."""
 
-    def test_from_audit_to_required_check(self) -> None:
+    def test_from_the_first_look_to_a_required_check(self) -> None:
         with folder(FILES):
-            git("init", "-q", ".")
-            self.audit()
+            git("init", "-q", "-b", "main", ".")
+            self.first_look()
             self.accept_what_is_there()
-            self.work_goes_on()
-            self.one_is_accepted()
-            self.one_is_cured()
-            self.the_server_checks()
+            git("checkout", "-q", "-b", "change")
+            self.changes()
+            self.what_a_change_writes_about_itself()
+            self.a_maintainer_accepts()
 
-    def audit(self) -> None:
-        """No path is named: the configuration says what is looked at, and what isn't is said."""
-        Path("pyproject.toml").write_text(str(FILES["pyproject.toml"]).replace('baseline = "relint-baseline.json"\n', ""))
-        ran = show()
-        self.assertEqual((ran.status, ran.err), (1, ""))
-        self.assertEqual(heads(ran), ["src/ours/rows.py:3:18: compile: exponential [RLT100]"])
-        last = ["not looked at: 1 notebook; left out: 2 folders", "2 entries: 1 exponential"]
-        self.assertEqual(ran.out.splitlines()[-2:], last)
+    def first_look(self) -> None:
+        """The configuration says what is looked at, and what isn't is said."""
+        ran = check()
+        self.assertEqual((ran.status, ran.err, heads(ran)), (1, "", ["src/rows.py:3:18: RLT100"]))
+        self.assertIn("configuration: pyproject.toml (paths, exclude", ran.out)
 
     def accept_what_is_there(self) -> None:
-        """The baseline is written once, read in review, and the check is green from then on."""
-        Path("pyproject.toml").write_text(str(FILES["pyproject.toml"]))
-        lost = show()
-        self.assertEqual(lost, (3, "", "relint-show: relint-baseline.json can't be read: it isn't there\n"))
-        ran = tool("relint-baseline", "write", "--reason", "known on the first day")
-        self.assertEqual(ran, (0, "relint-baseline.json: 1 entry\n", ""))
-        lines = Path("relint-baseline.json").read_text().splitlines()
-        entry = json.loads(lines[1])
-        self.assertEqual((entry["path"], entry["reason"]), ("src/ours/rows.py", "known on the first day"))
-        git("add", ".")
-        git("commit", "-q", "--no-verify", "-m", "first")
-        ran = show()
-        self.assertEqual((ran.status, ran.err), (0, ""))
-        self.assertEqual(ran.out.splitlines()[-1], "1 entry: no findings; 1 hidden")
-        self.assertEqual(program.run(["check", "--baseline", "relint-baseline.json", "src/ours/rows.py"]).status, 0)
-
-    def work_goes_on(self) -> None:
-        """The hook is green where lines move. It stops a new finding, a copy, and a worse pattern in place of a known one."""
-        self.assertEqual(staged("src/ours/rows.py", "# more\n\n" + OLD).status, 0)
-        ran = staged("src/ours/new.py", 'import re\nre.match(r"(.*),(.*),(.*);", "")\n')
-        self.assertEqual((ran.status, heads(ran)), (1, ["src/ours/new.py:2:10: match: cubic (degree 3) [RLT103]"]))
-        self.assertEqual(len(heads(staged("src/ours/new.py", OLD))), 1)
-        git("rm", "-q", "-f", "src/ours/new.py")
-        worse = OLD.replace(r"(\w+\s?)*$", r"(\w*\s?)*x$")
-        Path("src/ours/rows.py").write_text(worse)
-        known = program.run(["check", "--baseline", "relint-baseline.json", "src/ours/rows.py"])
-        self.assertEqual(known.status, 0, "relint itself goes by the class, so it can't see this")
-        ran = staged("src/ours/rows.py", worse)
-        self.assertEqual((ran.status, heads(ran)), (1, ["src/ours/rows.py:3:18: compile: exponential [RLT100]"]))
-        self.assertIn("no longer found: src/ours/rows.py: compile: r\"(\\w+\\s?)*$\"", ran.err)
-        git("reset", "-q", "--hard")
-        self.assertEqual(staged("src/ours/generated/tables.py", "import re\nre.search('(b|b)*c', '')\n").status, 0)
-        git("reset", "-q", "--hard")
-
-    def one_is_accepted(self) -> None:
-        """A finding that can't hurt is accepted by one command, with a reason."""
-        path = "src/ours/menu.py"
-        self.assertEqual(staged(path, 'import re\nMENU = re.compile(r"(x+x+)+y")\n').status, 1)
-        self.assertEqual(tool("relint-baseline", "accept", f"{path}:2").status, 2)
-        ran = tool("relint-baseline", "accept", f"{path}:2", "--reason", "only our own menus")
-        self.assertEqual(ran, (0, "relint-baseline.json: 2 entries, +1\n", ""))
-        self.assertEqual(hook().status, 0)
-        os.rename(path, "src/ours/menus.py")
+        """What is there is accepted once, and the check passes from then on."""
+        self.assertEqual(rlt("accept", "--all", "--reason=known on the first day").out.splitlines()[-1],
+                         "relint-accepted.json: 1 accepted, +1")
+        ran = check()
+        self.assertEqual((ran.status, heads(ran)), (0, []))
+        self.assertIn("hidden: 1 accepted by relint-accepted.json", ran.out)
         git("add", "-A")
-        ran = hook()
-        self.assertEqual((ran.status, heads(ran)), (1, ["src/ours/menus.py:2:19: compile: exponential [RLT100]"]))
-        self.assertIn("moved to src/ours/menus.py", ran.err)
-        self.assertEqual(tool("relint-baseline", "--update").out, "relint-baseline.json: 2 entries, +0\n")
-        self.assertEqual(hook().status, 0)
-        self.assertIn("only our own menus", Path("relint-baseline.json").read_text())
+        git("commit", "-q", "-m", "first")
 
-    def one_is_cured(self) -> None:
-        """A cured pattern leaves a stale entry, which is named until the file is updated."""
-        ran = staged("src/ours/rows.py", OLD.replace(r"(\w+\s?)*$", r"(?:\w+(?:\s\w+)*\s?)?$"))
-        self.assertEqual(ran.status, 0)
-        self.assertIn("no longer found: src/ours/rows.py", ran.err)
-        self.assertEqual(tool("relint-baseline", "--update").out, "relint-baseline.json: 1 entry, -1\n")
-        self.assertEqual(hook().err, "")
+    def changes(self) -> None:
+        """A change that moves a finding passes; one that adds or edits one fails; so does a copy."""
+        Path("src/rows.py").write_text("# more\n\n" + OLD)
+        self.assertEqual(changed(), (0, []))
+        os.rename("src/rows.py", "src/moved.py")
+        self.assertEqual(changed(), (0, []))
+        Path("src/copy.py").write_text(OLD)
+        self.assertEqual(changed()[0], 1)
+        os.remove("src/copy.py")
+        Path("src/moved.py").write_text(OLD.replace(r"(\w+\s?)*$", r"(\w*\s?)*x$"))
+        self.assertEqual(changed(), (1, ["src/moved.py:3:18: RLT100"]))
+        git("reset", "-q", "--hard")
+        Path("src/new.py").write_text('import re\nre.match(r"(.*),(.*),(.*);", "")\n')
+        self.assertEqual(changed(), (1, ["src/new.py:2:10: RLT103"]))
 
-    def the_server_checks(self) -> None:
-        """The server's run is strict, and its SARIF keeps the rules of the schema."""
-        Path("src/ours/look.py").write_text('import re\nre.search(r"(?=a)b", "")\nre.match(r"(.*),(.*),(.*);", "")\n')
-        self.assertEqual(show().status, 1)
+    def what_a_change_writes_about_itself(self) -> None:
+        """Its configuration, its accepts and its comments don't count, and each is said."""
+        for text in ("exclude = ['*']", "max-degree = 9", "paths = ['src/dates.py']", "compile-as = 'match'"):
+            Path("pyproject.toml").write_text(f"[tool.relint]\n{text}\n")
+            ran = check("--baseline-commit=main", "--locked")
+            self.assertEqual((ran.status, heads(ran)), (1, ["src/new.py:2:10: RLT103"]))
+            self.assertIn("the change touches pyproject.toml: what it says there counts once it is merged", ran.out)
+        Path("pyproject.toml").write_text(CONFIG)
+        self.assertEqual(rlt("accept", "src/new.py:2", "--reason=mine").status, 0)
+        ran = check("--baseline-commit=main", "--locked")
+        self.assertEqual((ran.status, heads(ran)), (1, ["src/new.py:2:10: RLT103"]))
+        self.assertRegex(ran.out, r"relint-accepted.json:\d+: this change wants to accept a finding, .*: mine\n")
+        ran = check("--baseline-commit=main")
+        self.assertEqual((ran.status, heads(ran)), (0, []))
+        self.assertRegex(ran.out, r"relint-accepted.json:\d+: this change accepts a finding: mine\n")
+        git("checkout", "-q", "--", "relint-accepted.json")
+        Path("src/new.py").write_text('import re\nre.match(r"(.*),(.*),(.*);", "")  # noqa: RLT103\n')
+        self.assertEqual(changed(), (1, ["src/new.py:2:10: RLT103"]))
+        self.assertEqual(changed("--format=terminal", "-q")[0], 1)
+        self.assertEqual(check().status, 0)
+
+    def a_maintainer_accepts(self) -> None:
+        """What a maintainer has merged counts, and the report for the server says it too."""
+        git("checkout", "-q", "main", "--", ".")
+        Path("src/new.py").write_text('import re\nre.match(r"(.*),(.*),(.*);", "")\n')
+        self.assertEqual(rlt("accept", "src/new.py:2", "--reason=only our own lines").status, 0)
         git("add", "-A")
-        ran = show("--tracked", "--format", "sarif", "--output", "relint.sarif")
-        self.assertEqual((ran.status, ran.err), (1, ""))
-        document = json.loads(Path("relint.sarif").read_text())
-        self.assertEqual(sarif_rules.problems(document), [])
-        self.assertEqual([it["ruleId"] for it in document["runs"][0]["results"]], ["RLT201", "RLT103"])
-        Path("src/ours/look.py").write_text('import re\nre.search(r"(?=a)b", "")\n')
-        self.assertEqual((show().status, show("--strict").status), (0, 1))
-
-
-@unittest.skipIf(NO_PROGRAM, NO_PROGRAM)
-class Outputs(unittest.TestCase):
-    """Output that is closed, full or gone: one line and status 4, for every tool."""
-
-    TOOLS = ("relint-show", "relint-page", "relint-confirm", "relint-many")
-
-    def ran(self, name: str, out: BinaryIO) -> "subprocess.CompletedProcess[bytes]":
-        words = [sys.executable, str(TOP / "tools" / name), "app.py"]
-        return subprocess.run(words, stdin=subprocess.DEVNULL, stdout=out, stderr=subprocess.PIPE)
-
-    @unittest.skipUnless(os.path.exists("/dev/full"), "there is no /dev/full")
-    def test_full(self) -> None:
-        with folder({"app.py": "x = 1\n"}), open("/dev/full", "wb") as full:
-            for name in self.TOOLS:
-                ran = self.ran(name, full)
-                self.assertEqual((ran.returncode, ran.stderr.count(b"\n")), (4, 1), (name, ran.stderr))
-
-    def test_closed(self) -> None:
-        with folder({"app.py": "x = 1\n"}):
-            for name in self.TOOLS:
-                words = f'exec "{sys.executable}" "{TOP}/tools/{name}" app.py >&- </dev/null'
-                ran = subprocess.run(["sh", "-c", words], stderr=subprocess.PIPE)
-                self.assertEqual((ran.returncode, ran.stderr.count(b"\n")), (4, 1), (name, ran.stderr))
+        git("commit", "-q", "-m", "accepted")
+        git("branch", "-f", "main")
+        Path("src/look.py").write_text('import re\nre.search(r"(?=a)b", "")\n')
+        self.assertEqual(changed(), (0, []))
+        self.assertEqual(changed("--strict")[0], 1)
+        self.assertEqual(rlt("check", "--format=json", "--write=sarif=relint.sarif", "--tracked").status, 0)
+        results = json.loads(Path("relint.sarif").read_text())["runs"][0]["results"]
+        self.assertEqual(sorted(it["ruleId"] for it in results), ["RLT100", "RLT103", "RLT201"])
+        self.assertEqual(sum("suppressions" in it for it in results), 2)
 
 
 if __name__ == "__main__":

@@ -68,7 +68,7 @@ class WrongBodies(unittest.TestCase):
         """But for those that have no contracts of their own: the programs, and what judges worked rows and units."""
         crates = {path.name for path in CRATES.iterdir() if (path / "src").is_dir()}
         without = crates - set(map(crate_of, of_the_gate()))
-        self.assertEqual(without, {"relint", "relint_spans", "rows", "unit_tests", "worked_rows"})
+        self.assertEqual(without, {"relint", "relint_ask", "rows", "unit_tests", "worked_rows"})
 
     def test_named_ones_are_in_the_gate(self) -> None:
         """Those of docs/data/wrong_bodies.tsv, each in the crate that the table gives."""

@@ -27,9 +27,9 @@ _LEFT_OUT = {"site-packages", "dist-packages", "test", "lib-dynload", "__pycache
 class Emulated(Program):
     """A program under an emulator, which takes some twenty times as long."""
 
-    def run(self, words: List[str], folder: Path, seconds: float = 60) -> Answer:
+    def run(self, words: List[str], folder: Path, seconds: float = 60, given: str = "") -> Answer:
         """Runs it, with twenty times as long to answer."""
-        return super().run(words, folder, seconds * _TIMES)
+        return super().run(words, folder, seconds * _TIMES, given)
 
 
 def other_program() -> Path:

@@ -10,7 +10,7 @@ from pathlib import Path
 from typing import List
 
 from runner import scratch
-from runner.programs import Program, TREE, clean_environment, run_command, tested_spans
+from runner.programs import Program, TREE, clean_environment, run_command, tested_ask
 from runner.results import Failed, Result
 
 _TESTS = Path("tests") / "python"
@@ -44,9 +44,9 @@ def _unit_tests_of(path: Path, program: Program, wanted: str = "") -> Result:
     result = Result()
     paths = [str(TREE / "python"), str(TREE / "tests")]
     environment = clean_environment(PYTHONPATH=os.pathsep.join(paths), RELINT=str(program.path))
-    spans = tested_spans()
-    if spans is not None:
-        environment["RELINT_SPANS"] = str(spans)
+    ask = tested_ask()
+    if ask is not None:
+        environment["RELINT_ASK"] = str(ask)
     command = [sys.executable, "-B", "-m", "unittest", "discover", "-s", str(_TESTS), "-p", path.name]
     if wanted:
         command += ["-k", wanted]

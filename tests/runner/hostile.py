@@ -15,7 +15,7 @@ from typing import Callable, List, Tuple
 from hostile import files, patches, runs, tree, watch
 from hostile.watch import Run, Watch
 from runner import scratch
-from runner.programs import TREE, Program, run_command
+from runner.programs import TREE, Program, run_command, tested_ask
 from runner.results import Failed, Result
 
 # The runs are shared out to this many copies of the repository, since each run's changes have to be seen.
@@ -43,6 +43,10 @@ def _watch_in(folder: Path, program: Program, bin_folder: Path) -> Watch:
     environment = scratch.environment_of(folder)
     environment["PATH"] = str(bin_folder) + os.pathsep + os.environ.get("PATH", os.defpath)
     environment["RELINT"] = str(program.path)
+    environment["RLT_PYTHON"] = tools_python()
+    ask = tested_ask()
+    if ask is not None:
+        environment["RELINT_ASK"] = str(ask)
     return Watch(tree.make(folder / "made", environment), environment)
 
 
@@ -92,9 +96,9 @@ def _take(result: Result, name: str, complaints: List[str]) -> None:
 
 
 def _check_python() -> None:
-    answer = run_command([tools_python(), "-c", "import sys; print(sys.version_info >= (3, 8))"], TREE)
+    answer = run_command([tools_python(), "-c", "import sys; print(sys.version_info >= (3, 9))"], TREE)
     if answer.stdout != "True\n":
-        raise Failed("TOOLS_PYTHON names no Python 3.8 or later")
+        raise Failed("TOOLS_PYTHON names no Python 3.9 or later")
 
 
 def run(program: Program) -> Result:
@@ -106,7 +110,7 @@ def run(program: Program) -> Result:
     if not watch.may_lock():
         result.skip("what can't be read", "root reads everything here, and setpriv can't take that right")
     if not shutil.which("patch"):
-        result.skip("relint-mend --diff, given to patch", "patch isn't installed")
+        result.skip("rlt fix --diff, given to patch", "patch isn't installed")
     try:
         _check_python()
         with tempfile.TemporaryDirectory() as folder:

@@ -50,8 +50,8 @@ def fuzz(program: Program) -> Result:
 
 
 def faults(program: Program) -> Result:
-    """Calls to the system that fail or come short, some of those that `bench/faults` tries."""
-    return _result(["bench/faults", "--every", "200"], program)
+    """Calls to the system that fail or come short, some of those that `tests/faults` tries."""
+    return _result(["tests/faults", "--every", "200"], program)
 
 
 def valgrind(program: Program) -> Result:

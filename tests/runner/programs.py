@@ -7,7 +7,6 @@ from dataclasses import dataclass
 from pathlib import Path
 from typing import Dict, List, Optional
 
-from relint import program
 from runner.results import Failed
 
 TREE = Path(__file__).resolve().parent.parent.parent
@@ -32,14 +31,14 @@ def clean_environment(**more: str) -> Dict[str, str]:
 
 
 def run_command(command: List[str], folder: Path, environment: Optional[Dict[str, str]] = None,
-                seconds: float = 600, together: bool = False) -> Answer:
-    """Runs a command in a folder; with `together` its standard error goes where its standard output goes.
+                seconds: float = 600, together: bool = False, given: str = "") -> Answer:
+    """Runs a command in a folder with an input; with `together` its standard error goes where its standard output goes.
 
     Raises `Failed` where there is no answer in time.
     """
     try:
         ended = subprocess.run(
-            command, cwd=str(folder), env=environment or clean_environment(), timeout=seconds, stdin=subprocess.DEVNULL,
+            command, cwd=str(folder), env=environment or clean_environment(), timeout=seconds, input=given.encode(),
             stdout=subprocess.PIPE, stderr=subprocess.STDOUT if together else subprocess.PIPE, check=False)
     except subprocess.TimeoutExpired:
         raise Failed("no answer in %d seconds: %s" % (seconds, " ".join(command)[:200])) from None
@@ -55,24 +54,21 @@ class Program:
 
     path: Path
 
-    def run(self, words: List[str], folder: Path, seconds: float = 600) -> Answer:
-        """Runs it with these words in a folder. Raises `Failed`."""
-        return run_command([str(self.path)] + words, folder, seconds=seconds)
+    def run(self, words: List[str], folder: Path, seconds: float = 600, given: str = "") -> Answer:
+        """Runs it with these words and this input in a folder. Raises `Failed`."""
+        return run_command([str(self.path)] + words, folder, seconds=seconds, given=given)
 
 
-def tested_spans() -> Optional[Path]:
-    """The file of relint-spans that is tested, or None if there is none.
+def tested_ask() -> Optional[Path]:
+    """The file of relint-ask that is tested, or None if there is none.
 
-    It is what the tools run; in place of the script of this tree, it is the program that the script runs.
+    It is the program that `RELINT_ASK` names, else the one of release/ for this machine, else the one that was built here.
     """
-    try:
-        found = Path(program.located(program.SPANS))
-    except program.ProgramError:
-        return None
-    if found != TREE / program.SPANS.script:
-        return found
-    released = TREE / "release" / os.uname().machine / "relint-spans"
-    built = TREE / program.SPANS.built[0]
+    named = os.environ.get("RELINT_ASK", "")
+    if named:
+        return Path(os.path.abspath(named))
+    released = TREE / "release" / os.uname().machine / "relint-ask"
+    built = TREE / "crates" / "relint_ask" / "out" / "relint_ask"
     return next((it for it in (released, built) if it.is_file()), None)
 
 

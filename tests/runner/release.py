@@ -127,35 +127,36 @@ def _in_an_empty_root(one: Released) -> None:
         root = ["chroot", folder] if os.geteuid() == 0 else ["unshare", "--user", "--map-root-user", "chroot", folder]
         if not shutil.which(root[0]):
             raise Skipped("%s isn't installed" % root[0])
-        for call, status, start in _IN_A_ROOT[one.name]:
-            found = run_command([*root, *words, *call], TREE)
+        for call, given, status, start in _IN_A_ROOT[one.name]:
+            found = run_command([*root, *words, *call], TREE, given=given)
             if found.status != status and re.search("not permitted|Operation|denied", found.stderr):
                 raise Skipped("no other root may be taken here: " + found.stderr.strip())
             right = found.status == status and found.stdout.startswith(start)
             _require(right, "it answers %r and %r" % (found.stdout, found.stderr))
 
 
-# calls of each program in a root that has the file /bad.py, with the status and the beginning of the answer
-_IN_A_ROOT: Dict[str, List[Tuple[List[str], int, str]]] = {
-    "relint": [(["cost", "a*", "aa"], 0, "steps 5 matched\n"),
-               (["check", "--format", "brief", "/bad.py"], 1, "/bad.py:2:12: compile: exponential\n")],
-    "relint-spans": [(["a+", "aa*"], 0, "same\n"), (["a|ab", "ab|a"], 1, "differ\n")]}
-_RUNS: Dict[str, List[List[str]]] = {
-    "relint": [
+# calls of each program in a root that has the file /bad.py, with the input, the status and the beginning of the answer
+_IN_A_ROOT: Dict[str, List[Tuple[List[str], str, int, str]]] = {
+    "relint": [(["cost", "a*", "aa"], "", 0, "steps 5 matched\n"),
+               (["check", "--format", "brief", "/bad.py"], "", 1, "/bad.py:2:12: compile: exponential\n")],
+    "relint-ask": [([], '{"ask":"spans","first":"a+","second":"aa*"}\n', 0, '{"answer":"same"}\n'), (["nothing"], "", 2, "")]}
+# calls of each program, with their input
+_RUNS: Dict[str, List[Tuple[List[str], str]]] = {
+    "relint": [(words, "") for words in (
         ["check", "--format", "json", "examples"], ["class", r"(\w+,?)*"], ["cost", "a*", "aa"], ["sample", "1", "20"],
-        ["prove", "(a|a)*b"], ["compare", "a*", "(?:a|b)*"], ["check", "not-there.py"], ["nothing"]],
-    "relint-spans": [
-        ["a+", "aa*"], ["(a|b)+", "(b|a)+"], ["--mode", "fullmatch", "a|ab", "ab|a"], ["a", "(?=a)"], ["nothing"]]}
+        ["prove", "(a|a)*b"], ["compare", "a*", "(?:a|b)*"], ["check", "not-there.py"], ["nothing"])],
+    "relint-ask": [([], '{"ask":"class","pattern":"(a|a)*b"}\n{"ask":"spans","first":"a|ab","second":"ab|a"}\nno JSON\n'),
+                   (["nothing"], "")]}
 
 
-def _traced(one: Released, words: List[str], more: List[str]) -> Tuple[Set[str], Tuple[str, str, int]]:
+def _traced(one: Released, words: List[str], given: str, more: List[str]) -> Tuple[Set[str], Tuple[str, str, int]]:
     """The system calls of a run, and what it answers; `more` are options of strace."""
     command = one.command()
     with tempfile.TemporaryDirectory() as folder:
         if len(command) > 1:
-            ran = run_command([command[0], "-strace", "-D", folder + "/calls", *command[1:], *words], TREE)
+            ran = run_command([command[0], "-strace", "-D", folder + "/calls", *command[1:], *words], TREE, given=given)
         elif shutil.which("strace"):
-            ran = run_command(["strace", "-f", "-qq", "-o", folder + "/calls", *more, *command, *words], TREE)
+            ran = run_command(["strace", "-f", "-qq", "-o", folder + "/calls", *more, *command, *words], TREE, given=given)
         else:
             raise Skipped("strace isn't installed: tools/release-packages")
         calls = Path(folder) / "calls"
@@ -168,8 +169,8 @@ def _traced(one: Released, words: List[str], more: List[str]) -> Tuple[Set[str],
 def _asks_no_more_of_the_kernel(one: Released) -> None:
     """Each system call is one that the table knows."""
     made: Set[str] = set()
-    for words in _RUNS[one.name]:
-        made |= _traced(one, words, [])[0]
+    for words, given in _RUNS[one.name]:
+        made |= _traced(one, words, given, [])[0]
     unknown = sorted(made - set(_CALLS))
     _require(not unknown, "it makes system calls that the table doesn't have: " + ", ".join(unknown))
 
@@ -179,10 +180,10 @@ def _does_without_newer_calls(one: Released) -> None:
     if len(one.command()) > 1:
         raise Skipped("the emulator can't refuse system calls")
     plain = Program(one.path)
-    for words in _RUNS[one.name]:
+    for words, given in _RUNS[one.name]:
         options = ["-e", "inject=%s:error=ENOSYS" % ",".join(_NEWER)]
-        answer = plain.run(words, TREE)
-        _require(_traced(one, words, options)[1] == (answer.stdout, answer.stderr, answer.status),
+        answer = plain.run(words, TREE, given=given)
+        _require(_traced(one, words, given, options)[1] == (answer.stdout, answer.stderr, answer.status),
                  "it answers otherwise: " + " ".join(words))
 
 
@@ -193,9 +194,10 @@ def _runs_on_the_oldest_kernel(one: Released) -> None:
         raise Skipped("the emulator qemu-%s-static isn't installed: tools/release-packages" % one.machine)
     processor = {"x86_64": "Nehalem", "aarch64": "cortex-a53"}[one.machine]
     words = [emulator, "-r", "3.10.0", "-cpu", processor, str(one.path)]
-    for call in _RUNS[one.name][:3]:
-        ran = run_command([*words, *call], TREE, seconds=1200)
-        _require(ran.status in (0, 1) and bool(ran.stdout), "it ends with status %d: %s" % (ran.status, ran.stderr))
+    for call, given in _RUNS[one.name][:3]:
+        ran = run_command([*words, *call], TREE, seconds=1200, given=given)
+        _require(call == ["nothing"] or ran.status in (0, 1) and bool(ran.stdout),
+                 "it ends with status %d: %s" % (ran.status, ran.stderr))
 
 
 def _ends_well_in_narrow_memory() -> None:

@@ -11,7 +11,7 @@ from pathlib import Path
 from typing import Dict, List
 
 from relint_build.program import PROGRAMS
-from runner.programs import TREE, Program, clean_environment, run_command, tested_spans
+from runner.programs import TREE, Program, clean_environment, run_command, tested_ask
 from runner.results import Failed, Skipped
 
 _LEFT_OUT = {".git", "out", "__pycache__", ".mypy_cache", "node_modules", ".venv"}
@@ -109,18 +109,18 @@ def _forward(program: Path) -> str:
 
 
 def put_programs(folder: Path, copy: Path, program: Program) -> None:
-    """Puts `relint` and the programs `relint-..` of a copy into a folder for the PATH.
+    """Puts `relint`, `relint-ask` and `rlt` of a copy into a folder for the PATH.
 
-    `./relint` and `tools/relint-spans` of the copy become the programs that are tested.
+    `./relint` and `tools/relint-ask` of the copy become the programs that are tested.
     """
     write_script(folder / "relint", _forward(program.path))
     write_script(copy / "relint", _forward(program.path))
-    spans = tested_spans()
-    if spans is not None:
-        write_script(copy / "tools" / "relint-spans", _forward(spans))
+    ask = tested_ask()
+    if ask is not None:
+        write_script(copy / "tools" / "relint-ask", _forward(ask))
     for path in files_of_tree():
         place = copy / path
-        if path.name.startswith("relint-") and path.parts[0] == "tools" and os.access(str(place), os.X_OK):
+        if path.name.startswith(("relint-", "rlt")) and path.parts[0] == "tools" and os.access(str(place), os.X_OK):
             write_script(folder / path.name, _forward(place))
 
 

@@ -72,7 +72,7 @@ def _man_page(path: Path) -> None:
         raise Failed("the man page isn't well formed: " + answer.stdout)
 
 
-def _is_made_from_usage() -> None:
+def _is_made_from_the_page() -> None:
     answer = run_command([str(TREE / "tools" / "manpage"), "--check"], TREE, together=True)
     if answer.status != 0:
         raise Failed(answer.stdout)
@@ -82,7 +82,7 @@ def run(program: Program) -> Result:
     """Compares the version numbers, and has the man pages read."""
     result = Result()
     _agreement(result)
-    result.take("docs/relint.1 is made from docs/USAGE.md", _is_made_from_usage)
+    result.take("docs/relint.1 is made from docs/RELINT.md", _is_made_from_the_page)
     for path in man_pages():
         result.take(str(path), partial(_man_page, path))
     return result
