@@ -74,7 +74,7 @@ def data(project: Project, programs: Programs) -> List[Entry]:
     if (TOP / MAN_PAGE).is_file():
         entries.append(Entry(f"{folder}/data/share/man/man1/relint.1", (TOP / MAN_PAGE).read_bytes()))
     for shell, place in COMPLETIONS.items():
-        for file in sorted((TOP / "packaging/completions" / shell).glob("*relint*")):
+        for file in sorted((TOP / "packaging/completions" / shell).glob("[!.]*")):
             entries.append(Entry(f"{folder}/data/share/{place}/{file.name}", file.read_bytes()))
     return entries
 

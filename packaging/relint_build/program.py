@@ -13,7 +13,7 @@ from typing import Dict, List
 
 MACHINES = ("x86_64", "aarch64")
 # The programs that a tree can have, by their files in release/, each with what the keys of release/INFO about it begin with.
-PROGRAMS = {"relint": "", "relint-spans": "spans-"}
+PROGRAMS = {"relint": "", "relint-ask": "ask-"}
 # What a static program runs with: any glibc since the oldest that pip has a name for with both machines, and any musl.
 PLATFORMS = ("manylinux_2_17", "manylinux2014", "musllinux_1_1")
 
