@@ -3,14 +3,14 @@
 # build it. Source it with `top` set to the folder of the repository. It needs a POSIX shell with awk, find, sort, xargs and
 # sha256sum; neither git nor Python.
 #
-# A program is named by its crate: relint, or relint_spans. A function whose PROGRAM is left out is about relint.
+# A program is named by its crate: relint, or relint_ask. A function whose PROGRAM is left out is about relint.
 #
 # release/INFO, and crates/PROGRAM/out/sum beside a program that was built here, hold lines `KEY VALUE`:
 #   sum              the sum of the tree that the program was built from, as tree_sum gives it
 #   program          the SHA-256 of the program that was built here
 #   program-MACHINE  the SHA-256 of the program of release/ for this machine: x86_64 or aarch64
 #   kit              the line of `rt version` of the kit that built it
-# In release/INFO the keys about relint_spans begin with `spans-`. release/README.md has its other lines.
+# In release/INFO the keys about relint_ask begin with `ask-`. release/README.md has its other lines.
 
 built=crates/relint/out/relint
 built_info=crates/relint/out/sum
@@ -20,7 +20,7 @@ machines="x86_64 aarch64"
 
 # programs: the programs of this tree.
 programs() {
-    for program in relint relint_spans; do
+    for program in relint relint_ask; do
         ! grep -q "^$program *:" "$top/crates.txt" || echo "$program"
     done
 }
@@ -28,7 +28,7 @@ programs() {
 # file_of PROGRAM: the name of its file in release/.
 file_of() {
     case $1 in
-        relint_spans) echo relint-spans ;;
+        relint_ask) echo relint-ask ;;
         *) echo "$1" ;;
     esac
 }
