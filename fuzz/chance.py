@@ -89,6 +89,11 @@ class Chance:
         new = self.pick([self._token(tokens), data[start:end] * self.pick([0, 2, 3, 50]), self._piece_of(data), b""])
         return data[:start] + new + data[end:]
 
+    def parts(self, data: bytes) -> List[bytes]:
+        """Returns the bytes in parts of a random size, or in one."""
+        size = self.pick([1, 2, 7, 100, len(data)]) or 1
+        return [data[at:at + size] for at in range(0, len(data), size)]
+
     def changed_json(self, data: bytes) -> bytes:
         """Returns the JSON, an object or a list, as one line with its line end, mostly with one value changed.
 

@@ -11,7 +11,7 @@ import json
 import os
 import string
 from pathlib import Path
-from typing import Any, Callable, Dict, List, Optional, Tuple
+from typing import Any, Callable, Dict, List, Optional, Tuple, Type
 
 from chance import NUMBERS, STRANGE, Chance, corpus
 from layouts import COUNTS, same_in_all, whole
@@ -32,6 +32,8 @@ WORDS: List[List[str]] = [
     ["confirm", "--from", "report.json", "--longest", "300"], ["fix", "--from", "report.json", "--diff"],
     ["check", "--config", "relint.toml", "source.py"], ["check", "--accepted", "accepted.json", "source.py"],
     ["accept", "--accepted", "accepted.json", "--prune", "source.py"], ["check", "--all", "notebook.ipynb"]]
+NOTE_TOKENS = [it.encode() for it in (
+    "made", "left out", "re", "regex", "\t", "\n", "s", "b", "00", "ff", "2f", "match", "-1", "9" * 30)]
 SOURCE_TOKENS = [it.encode() for it in (
     "import re\n", "from re import compile as c\n", "re.compile(", "re.match(", "c(", "re.sub(", ")", "r'", "rb'", "f'", "'''",
     '"""', ", re.I", ", flags=re.X | re.M", "(", "[", "{", "#", "\\\n", "def f():\n", "    ", "lambda: ", "pattern=", "*a",
@@ -46,15 +48,6 @@ TOML_TOKENS = [it.encode() for it in (
     "[[a]]",
     "true", "inf", "nan", "1979-05-27", "0b1", "1_000", '"""', "'''", "{a = 1}", "[1, 2]", "# note\n", "\\u00e9", "a.b",
     '"a"', "\n")]
-
-
-CONFIGURATIONS = [it.encode() for it in (
-    'paths = ["source.py"]\nexclude = ["x*"]\n', "max-degree = 3\nwarn-degree = 1\nmax-pairs = 7\n",
-    'accepted = "accepted.json"\n', 'compile-as = "match"\nstrict = true\njobs = 1\nseconds = 9\n', "wide = true\n")]
-_ROW = {"path": "source.py", "pattern": 'r"(a|a)*b"', "mode": "search", "class": "exponential", "reason": "x"}
-ACCEPTED = json.dumps({"accepted": [_ROW], "version": 1}).encode()
-_CELL = {"cell_type": "code", "source": ["import re\n", 're.compile("(a|a)*b")\n'], "metadata": {}, "outputs": []}
-NOTEBOOK = json.dumps({"cells": [_CELL], "metadata": {}, "nbformat": 4, "nbformat_minor": 5}).encode()
 
 
 def words(runner: Runner, chance: Chance, kept: Optional[bytes]) -> None:
@@ -160,7 +153,7 @@ def _read_by_tools(runner: Runner, data: bytes, report: Dict[str, Any]) -> None:
     engine, source = importlib.import_module("relint.engine.engine"), importlib.import_module("relint.code.source")
     if "version" not in report:
         return
-    read = engine.read_report(json.dumps(report).encode("utf-8"))
+    read = engine.read_report([json.dumps(report).encode("utf-8")])
     if [it.kind for it in read.entries] != [it["kind"] for it in report["entries"]]:
         raise Wrong("the reader of reports gives other kinds: %r" % [it.kind for it in read.entries])
     try:
@@ -341,7 +334,7 @@ def reports(runner: Runner, chance: Chance, kept: Optional[bytes]) -> None:
         data = _changed_report(chance)
     module = importlib.import_module("relint.engine.engine")
     try:
-        report = module.read_report(data)
+        report = module.read_report(chance.parts(data))
     except module.ReportError as error:
         if len(str(error).splitlines()) != 1:
             raise Wrong("the error isn't one line: %r" % str(error)) from None
@@ -370,9 +363,9 @@ def tools(runner: Runner, chance: Chance, kept: Optional[bytes]) -> None:
         runner.put(name + ".py", chance.pick(corpus("sources")))
     runner.put("source.py", chance.pick(corpus("sources")))
     runner.put("report.json", data)
-    runner.put("relint.toml", chance.changed(chance.pick(CONFIGURATIONS), TOML_TOKENS))
-    runner.put("accepted.json", chance.changed(ACCEPTED, JSON_TOKENS))
-    runner.put("notebook.ipynb", chance.changed(NOTEBOOK, JSON_TOKENS))
+    runner.put("relint.toml", _changed(chance, "configurations", TOML_TOKENS))
+    runner.put("accepted.json", _changed(chance, "accepted", JSON_TOKENS))
+    runner.put("notebook.ipynb", _changed(chance, "notebooks", JSON_TOKENS))
     given = chance.pick(WORDS)
     job = {"tool": "rlt", "words": given, "cwd": str(runner.folder), "seconds": 60, "megabytes": 3000}
     job.update({name: str(runner.folder / name) for name in ("out", "err", "given")})
@@ -388,6 +381,110 @@ def tools(runner: Runner, chance: Chance, kept: Optional[bytes]) -> None:
     said = (shown + b"\n" + err).decode("utf-8", "surrogateescape")
     obeyed = dangers(said, not said.startswith("{"))
     ran.need(not obeyed, "it writes " + "; ".join(obeyed))
+
+
+def _changed(chance: Chance, target: str, tokens: List[bytes]) -> bytes:
+    """Returns one of the files that are kept for a target, mostly with changes."""
+    data = chance.pick(corpus(target))
+    return data if chance.one(8) else chance.changed(data, tokens)
+
+
+def _ends(call: Callable[[], Any], errors: Tuple[Type[Exception], ...]) -> Any:
+    """Returns what a reader of the package gives, or None if it refuses what it read, which is to be said in one line.
+
+    Raises Wrong for any other error.
+    """
+    try:
+        return call()
+    except errors as error:
+        if len(str(error).splitlines()) != 1 or dangers(str(error)):
+            raise Wrong("the error isn't one line, or a terminal obeys it: %r" % str(error)) from None
+        return None
+    except (Exception, RecursionError) as error:  # (whatever comes here is the finding)
+        raise Wrong("the reader raises %s: %s" % (type(error).__name__, str(error)[:200])) from error
+
+
+def configurations(runner: Runner, chance: Chance, kept: Optional[bytes]) -> None:
+    """Configurations of rlt: one is refused in one line, or nothing of it leads out of its folder or lifts a limit.
+
+    What it narrows is said.
+    """
+    module = importlib.import_module("relint.options")
+    data = _changed(chance, "configurations", TOML_TOKENS) if kept is None else kept
+    name = chance.pick(["relint.toml", "relint.toml", "pyproject.toml"])
+    runner.put(name, data)
+    (runner.folder / "src").mkdir()
+    (runner.folder / "link").symlink_to("/etc")
+    here = os.getcwd()
+    os.chdir(runner.folder)
+    try:
+        found = _ends(lambda: module.read_options([]), (module.OptionsError,))
+    finally:
+        os.chdir(here)
+    if found is None:
+        return
+    top = os.path.realpath(runner.folder)
+    paths = [os.path.realpath(os.path.join(top, it)) for it in (*found.paths, found.accepted, *found.takers)]
+    if any(it != top and not it.startswith(top + os.sep) or ".git" in it.split(os.sep) for it in paths):
+        raise Wrong("a path leads out of the folder: %r" % paths)
+    if found.jobs > module.processors() or found.seconds > module.Options.seconds:
+        raise Wrong("a limit is lifted: %d jobs, %d seconds" % (found.jobs, found.seconds))
+    said = " ".join(it.what for it in found.narrowed)
+    usual = module.Options()
+    narrows = {"max-degree": found.max_degree > usual.max_degree, "max-pairs": found.max_pairs < usual.max_pairs,
+               "exclude": bool(found.exclude), "compile-as": found.mode != usual.mode, "paths": top not in paths}
+    silent = [it for it, is_narrow in narrows.items() if is_narrow and it not in said]
+    if silent:
+        raise Wrong("it narrows in silence: %s" % ", ".join(silent))
+
+
+def accepted(_: Runner, chance: Chance, kept: Optional[bytes]) -> None:
+    """Accepted files: one is refused in one line, or stays the same when it is written and read again."""
+    module = importlib.import_module("relint.stages.accept")
+    data = _changed(chance, "accepted", JSON_TOKENS) if kept is None else kept
+    rows = _ends(lambda: module.read(data, "accepted.json"), (module.AcceptError,))
+    if rows is not None:
+        text = module.Accepted("accepted.json", rows).text().encode("ascii")
+        again = _ends(lambda: module.read(text, "accepted.json"), (module.AcceptError,))
+        if again is None or sorted(it.same() for it in again) != sorted(it.same() for it in rows):
+            raise Wrong("what is written isn't what was read")
+
+
+def notes(runner: Runner, chance: Chance, kept: Optional[bytes]) -> None:
+    """Notes of a recorded program: those that are right are read, the others are counted, and nothing is raised."""
+    module = importlib.import_module("relint.trials.record")
+    data = _changed(chance, "notes", NOTE_TOKENS) if kept is None else kept
+    (runner.folder / "notes").mkdir()
+    runner.put("notes/1", data)
+    recorded = _ends(lambda: module.read_notes(str(runner.folder / "notes")), ())
+    lines = [it for it in data.split(b"\n") if it]
+    if len(recorded.found) + recorded.left_out + recorded.wrong > len(lines):
+        raise Wrong("more is counted than there is")
+    for it in recorded.found:
+        if not it.path or "\0" in it.path or not it.name.isidentifier() or len(it.pattern) > module.LONGEST:
+            raise Wrong("a note that is wrong is taken: %r" % (it,))
+        _ends(lambda: os.path.realpath(it.path), ())
+
+
+def notebooks(_: Runner, chance: Chance, kept: Optional[bytes]) -> None:
+    """Notebooks: one is refused in one line, or gives a text that Python parses, whose lines come from its cells."""
+    places, source = importlib.import_module("relint.code.places"), importlib.import_module("relint.code.source")
+    data = _changed(chance, "notebooks", JSON_TOKENS) if kept is None else kept
+    book = _ends(lambda: places.notebook(data), (places.NotebookError,))
+    if book is None:
+        return
+    unit = _ends(lambda: source.Unit("a.ipynb", book.text.encode("utf-8", "surrogatepass")), (source.SourceError,))
+    if unit is not None and unit.is_parsed:
+        takers = places.Takers(places.takers_of(places.own_rows()), True)
+        folder = importlib.import_module("relint.code.fold").Folder
+        sources = importlib.import_module("relint.code.fold").Sources
+        for it in places.places_in(unit, takers, folder(sources(_nothing))):
+            book.in_cell(it, "a.ipynb")
+
+
+def _nothing(path: str) -> Any:
+    """Always raises SourceError: no other file is there."""
+    raise importlib.import_module("relint.code.source").SourceError("it isn't there")
 
 
 @functools.lru_cache(maxsize=None)
@@ -410,6 +507,8 @@ def _use(entry: Any) -> None:
 
 TARGETS: Dict[str, Callable[[Runner, Chance, Optional[bytes]], None]] = {
     "words": words, "sources": sources, "settings": settings, "baselines": baselines, "certificates": certificates,
-    "reports": reports, "tools": tools, "asks": asks}
+    "reports": reports, "configurations": configurations, "accepted": accepted, "notes": notes, "notebooks": notebooks,
+    "tools": tools, "asks": asks}
 # How many of a hundred cases are of each target.
-SHARES = {"words": 18, "sources": 18, "settings": 13, "baselines": 9, "certificates": 9, "reports": 19, "tools": 5, "asks": 9}
+SHARES = {"words": 16, "sources": 16, "settings": 11, "baselines": 8, "certificates": 8, "reports": 11, "configurations": 6,
+          "accepted": 5, "notes": 3, "notebooks": 3, "tools": 5, "asks": 8}

@@ -10,6 +10,7 @@ import os
 import signal
 import sys
 import time
+from contextlib import closing
 from dataclasses import replace
 from typing import Any, Callable, Iterable, List, Optional, Sequence, Tuple
 
@@ -32,10 +33,7 @@ OTHERS = {"confirm": ".show.tried:confirm", "record": ".show.tried:record", "ser
 
 
 def main(words: Optional[Sequence[str]] = None) -> int:
-    """Does what the words of the command line say, or those in `sys.argv` if None, and returns the exit status.
-
-    Errors are named in one line on standard error.
-    """
+    """Does what the words say, or those in `sys.argv`, and returns the status; errors are one line on standard error."""
     given = list(sys.argv[1:] if words is None else words)
     before = _on_signals(_stop)
     try:
@@ -74,10 +72,7 @@ def _stop(number: int, _: object) -> None:
 
 
 def _on_signals(how: Any) -> List[Tuple[int, Any]]:
-    """Says what is to be done on SIGTERM and SIGHUP, unless they are ignored; returns what was to be done before.
-
-    Nothing is said in another thread than the main one, in which Python takes no such word.
-    """
+    """Sets what SIGTERM and SIGHUP do unless they are ignored, in the main thread alone; returns what they did before."""
     found = [(it, signal.getsignal(it)) for it in (signal.SIGTERM, signal.SIGHUP)]
     try:
         return [(it, signal.signal(it, how)) for it, before in found if before != signal.SIG_IGN]
@@ -138,11 +133,9 @@ def _options(words: Sequence[str]) -> Options:
     named = () if "reports" in given.values else given.rest
     if named == ("-",):
         named = (given.values.get("stdin_filename", "."),)
-    earlier = Earlier(commit, common_folder(named or ["."]))
-    try:
+    until = time.monotonic() + given.values.get("seconds", Options.seconds)
+    with closing(Earlier(commit, common_folder(named or ["."]), until)) as earlier:
         return read_options(words, ".", earlier.data)
-    finally:
-        earlier.close()
 
 
 def _colour(choice: str) -> str:
@@ -197,11 +190,8 @@ def ran(options: Options) -> Tuple[List[Finding], Summary, int]:
     """Returns the findings of a run, its summary and its status, and shows progress meanwhile."""
     from .stages import pipeline
 
-    progress = Progress(options.quiet)
-    try:
+    with closing(Progress(options.quiet)) as progress:
         findings, summary = pipeline.run(options, progress)
-    finally:
-        progress.close()
     return findings, summary, pipeline.status_of(findings, summary, options)
 
 
@@ -212,15 +202,17 @@ def check(options: Options) -> int:
 
 def shown(findings: Sequence[Finding], summary: Summary, status: int, options: Options) -> int:
     """Writes the findings in all formats that the options name, and returns the status."""
-    for name, file in options.write:
+    for number, (name, file) in enumerate(options.write):
+        summary.clock.share(len(options.write) + 1 - number)
         plain = replace(options, color="never", format=name)
         text = "".join(it + "\n" for it in _function(LAYOUTS[name])(findings, summary, plain))
         try:
             say(f"{file}: {lost}" for lost in replace_named(file, text.encode("utf-8", "backslashreplace")))
         except WriteError as error:
             status = _failed(f"{file} can't be written: {error}", UNWRITTEN)
+    summary.clock.share(1)
     put(_function(LAYOUTS[options.format])(findings, summary, options))
-    return status
+    return NOT_READ if summary.clock.left and status < NOT_READ else status
 
 
 def _facts(findings: Sequence[Finding], summary: Summary, options: Options) -> None:
@@ -232,13 +224,10 @@ def _facts(findings: Sequence[Finding], summary: Summary, options: Options) -> N
 
 def fix(options: Options) -> int:
     """Does `rlt fix`, and returns the status: 1 if a finding is left."""
-    from types import SimpleNamespace
-
     from .mend import edits
 
     findings, summary, status = ran(options)
-    run = SimpleNamespace(folders=summary.folders, deadline=time.monotonic() + options.seconds)
-    lines, left = edits.fix(findings, run, options)
+    lines, left = edits.fix(findings, summary.folders, options, summary.clock.end)
     put(lines if options.diff else map(line, lines))
     _facts(findings, summary, options)
     return status if status > FINDING else left

@@ -12,28 +12,29 @@ import re
 import stat
 import sys
 import time
+from contextlib import ExitStack
 from dataclasses import dataclass, field, replace
+from functools import lru_cache
 from typing import Callable, Dict, Iterator, List, NamedTuple, Optional, Sequence, Set, Tuple
 
 from . import git
 from .base.model import Narrowed, NotLooked
 from .base.safe import LARGEST_SOURCE, is_utf8, visible
 from .git import Earlier, GitError
-from .options import TOPS, Options
+from .options import CONTROL, TOPS, Options, OptionsError
 
 DEEPEST = 64
 SOURCE, NOTEBOOK = ".py", ".ipynb"
 __all__ = ("Chosen", "Earlier", "FilesError", "GitError", "choose")
 
 # Folders that a walk leaves out: of version control, of environments, of other tools, and of what is built or installed.
-CONTROL = (".bzr", ".git", ".hg", ".svn")
 INSTALLED = (".direnv", ".eggs", ".nox", ".pyenv", ".tox", ".venv", "__pypackages__", "node_modules", "site-packages")
 LEFT_OUT = frozenset((
     *CONTROL, *INSTALLED, ".ipynb_checkpoints", ".mypy_cache", ".pants.d", ".pytest_cache", ".pytype", ".ruff_cache",
     ".vscode", "_build", "buck-out", "build", "dist",
 ))
-# Names of folders that hold code of others, even if git tracks it, and the file that makes a folder such a one.
-ENVIRONMENTS, ENVIRONMENT_MARK = frozenset((".venv", ".tox", ".nox", "site-packages")), "pyvenv.cfg"
+# The file that makes a folder a virtual environment.
+ENVIRONMENT_MARK = "pyvenv.cfg"
 FOLDER = os.O_RDONLY | os.O_DIRECTORY | os.O_NOFOLLOW | os.O_CLOEXEC
 # More files than this aren't read for the uses of a pattern: in a project, and in a folder that is none.
 MOST_OF_A_PROJECT, MOST_ELSEWHERE = 300_000, 5_000
@@ -48,13 +49,8 @@ NOT_TEXT = "its name isn't UTF-8"
 SUBMODULE = "it is a submodule"
 
 
-class FilesError(Exception):
+class FilesError(OptionsError):
     """Raised if nothing can be looked at; the message says why, and `status` is the exit status."""
-
-    def __init__(self, message: str, status: int = 2) -> None:
-        """Takes the message and the exit status."""
-        super().__init__(message)
-        self.status = status
 
 
 class Found(NamedTuple):
@@ -123,53 +119,33 @@ def walk(top: str, enters: Callable[[str, str], bool], environments: bool = Fals
     `enters` is asked with its path and name whether a folder is entered. Links aren't followed below `top`. A virtual
     environment is entered only with `environments`.
     """
-    try:
-        opened = os.open(top or os.curdir, FOLDER & ~os.O_NOFOLLOW)
-    except OSError:
-        yield Found(CLOSED, top or os.curdir)
-        return
-    yield from _Walk(enters, environments).below(opened, os.path.join(top, "") if top else "", 0)
-
-
-class _Walk(NamedTuple):
-    """How a walk goes; see `walk`."""
-
-    enters: Callable[[str, str], bool]
-    environments: bool
-
-    def below(self, opened: int, front: str, level: int) -> Iterator[Found]:
-        """Yields what lies below the open folder, whose descriptor is closed at the end; `front` begins its paths."""
-        try:
+    def below(name: str, above: Optional[int], path: str, level: int) -> Iterator[Found]:
+        """Yields what lies below a folder, which is opened by its name in the open folder `above`."""
+        if level > DEEPEST:
+            yield Found(DEEP, path)
+            return
+        with ExitStack() as stack:
             try:
+                opened = os.open(name, FOLDER if level else FOLDER & ~os.O_NOFOLLOW, dir_fd=above)
+                stack.callback(os.close, opened)
                 with os.scandir(opened) as entries:
                     children = sorted(entries, key=lambda it: it.name)
             except OSError:
-                yield Found(CLOSED, front.rstrip("/") or os.curdir)
+                yield Found(CLOSED, path or os.curdir)
                 return
-            if level and not self.environments and any(it.name == ENVIRONMENT_MARK for it in children):
-                yield Found(ENVIRONMENT, front.rstrip("/"))
+            if level and not environments and any(it.name == ENVIRONMENT_MARK for it in children):
+                yield Found(ENVIRONMENT, path)
                 return
+            front = os.path.join(path, "") if path else ""
             for it in children:
                 if it.is_symlink():
                     yield Found(LINK, front + it.name)
                 elif not it.is_dir(follow_symlinks=False):
                     yield Found(FILE if it.is_file(follow_symlinks=False) else OTHER, front + it.name)
-                elif self.enters(front + it.name, it.name):
-                    yield from self.folder(opened, it.name, front, level)
-        finally:
-            os.close(opened)
+                elif enters(front + it.name, it.name):
+                    yield from below(it.name, opened, front + it.name, level + 1)
 
-    def folder(self, above: int, name: str, front: str, level: int) -> Iterator[Found]:
-        """Yields what lies below a folder of the open folder `above`."""
-        if level == DEEPEST:
-            yield Found(DEEP, front + name)
-            return
-        try:
-            opened = os.open(name, FOLDER, dir_fd=above)
-        except OSError:
-            yield Found(CLOSED, front + name)
-            return
-        yield from self.below(opened, f"{front}{name}/", level + 1)
+    return below(top or os.curdir, None, top, 0)
 
 
 class Globs:
@@ -181,10 +157,9 @@ class Globs:
 
     def __init__(self, globs: Sequence[str], folder: str) -> None:
         """Takes the globs, and the absolute path of the folder without links."""
-        self._folder = folder
         self._names: List["re.Pattern[str]"] = []
         self._paths: List["re.Pattern[str]"] = []
-        self._inside: Dict[str, str] = {}
+        self._inside = lru_cache(maxsize=None)(lambda above: os.path.relpath(os.path.realpath(above or os.curdir), folder))
         for glob in globs:
             text = os.path.normpath(glob)
             text = os.path.relpath(text, folder) if os.path.isabs(text) else text
@@ -194,21 +169,16 @@ class Globs:
         """Returns whether a glob matches a path or, with `every_level`, a folder above it below the globs' folder."""
         if not (self._names or self._paths):
             return False
-        names = self._from_folder(path).split("/")
+        # (all links but the last name are followed)
+        above, name = os.path.split(path.rstrip("/") or path)
+        front = self._inside(above)
+        names = [*(front.split("/") if front != os.curdir else []), name]
         levels = ["/".join(names[:at]) for at in range(1, len(names) + 1) if names[at - 1] != ".."]
         for level in levels if every_level else levels[-1:]:
             last = level.rpartition("/")[2]
             if any(it.match(last) for it in self._names) or any(it.match(level) for it in self._paths):
                 return True
         return False
-
-    def _from_folder(self, path: str) -> str:
-        """The path relative to the folder of the globs, with all links in it followed except the last part."""
-        above, name = os.path.split(path.rstrip("/") or path)
-        if above not in self._inside:
-            self._inside[above] = os.path.relpath(os.path.realpath(above or "."), self._folder)
-        front = self._inside[above]
-        return name if front == "." else f"{front}/{name}"
 
 
 def plain(path: str) -> str:
@@ -257,7 +227,7 @@ class _Chooser:
         self.met: Set[str] = set()
         self.hidden = self.environments = 0
         self.left_out: Dict[str, int] = {}
-        self.reals: Dict[str, str] = {}
+        self.real: Callable[[str], str] = lru_cache(maxsize=None)(lambda folder: os.path.realpath(folder or os.curdir))
 
     def folders(self, root: str) -> Tuple[str, ...]:
         """The folders that sources are read below: named ones that lie behind a link, the project, and others."""
@@ -297,12 +267,6 @@ class _Chooser:
         self.found._real[path] = real
         (self.found.notebooks if path.endswith(NOTEBOOK) else self.found.files).append(path)
 
-    def real(self, folder: str) -> str:
-        """The path of a folder without links."""
-        if folder not in self.reals:
-            self.reals[folder] = os.path.realpath(folder or os.curdir)
-        return self.reals[folder]
-
     def miss(self, path: str, why: str, fails: bool = False) -> None:
         """Notes something that isn't looked at."""
         self.found.not_looked.append(NotLooked(path, why, fails=fails))
@@ -338,10 +302,9 @@ class _Chooser:
     def add_tracked(self, path: str) -> None:
         """Adds the Python files that git tracks at a path or below it."""
         top = plain(path if os.path.isdir(path) else os.path.dirname(path) or ".").rstrip("/")
-        # (a folder that the user names is looked at even if it is an environment)
-        environments = {"" if top == "." else top: False}
-        links = dict(environments)
-        for it in git.tracked(path):
+        links = {"" if top == "." else top: False}
+        # (what is tracked is the project's own, so no folder that poses as an environment hides any of it)
+        for it in git.tracked(path, self.found.deadline):
             is_source = it.path.endswith((SOURCE, NOTEBOOK))
             if it.mode == git.SUBMODULE:
                 self.miss(it.path, SUBMODULE)
@@ -352,8 +315,6 @@ class _Chooser:
                 continue
             elif _holds(os.path.dirname(it.path), links, os.path.islink):
                 self.miss(it.path, "a folder above it is a link")
-            elif not self.options.no_default_exclude and _holds(os.path.dirname(it.path), environments, _is_environment):
-                self.environments += 1
             elif self.globs.matches(it.path, True):
                 self.hidden += 1
             elif os.path.isfile(it.path):
@@ -377,11 +338,6 @@ class _Chooser:
         if not names:
             return ""
         return f"{front}left out: {visible(', '.join(names))} (--no-default-exclude looks there too)"
-
-
-def _is_environment(folder: str) -> bool:
-    """Whether a folder is a virtual environment or holds code of others, by its name or by the file that marks one."""
-    return os.path.basename(folder) in ENVIRONMENTS or os.path.isfile(os.path.join(folder, ENVIRONMENT_MARK))
 
 
 def _holds(folder: str, known: Dict[str, bool], test: Callable[[str], bool]) -> bool:

@@ -9,12 +9,12 @@ import importlib
 import os
 from typing import Dict, Iterator, Sequence, Tuple, Type
 
-from .base.model import NEW, Finding
+from .base.model import NEW
 from .base.safe import line, visible
 from .base.words import danger, outcome, rule_of
 from .engine.program import ProgramError, located
 from .options import version
-from .stages.buffer import Judge, NotJudged, Opened
+from .stages.buffer import Judge, NotJudged
 from .stages.pipeline import fails_strictly
 
 Violation = Tuple[int, int, str, Type["Plugin"]]
@@ -55,20 +55,13 @@ class Plugin:
         except NotJudged as error:
             yield 1, 0, line(f"{NOT_READ} not judged: {error}"), Plugin
             return
-        for it, words in violations(opened) if opened else []:
-            yield it.place.line, it.place.column - 1, line(f"{rule_of(it)} {words}"), Plugin
-        for why in opened.lost if opened else ():
+        if opened is None:
+            return
+        run = opened.run
+        for it in opened.findings:
+            # (with `strict` in the configuration, what isn't decided or judged is a violation too)
+            if it.state == NEW or it.entry.call is None or run.options.strict and fails_strictly(it, run.options):
+                words = danger(it, run.steps_a_second) if it.state == NEW else outcome(it)
+                yield it.place.line, it.place.column - 1, line(f"{rule_of(it)} {words}"), Plugin
+        for why in opened.lost:
             yield 1, 0, line(f"{NOT_READ} not judged: {why}"), Plugin
-
-
-def violations(opened: Opened) -> Iterator[Tuple[Finding, str]]:
-    """Yields what is a violation, with what is said of it: findings, and what is said of the file as a whole.
-
-    With `strict` in the configuration, what isn't decided or judged is one too.
-    """
-    run = opened.run
-    for it in opened.findings:
-        if it.state == NEW:
-            yield it, danger(it, run.steps_a_second)
-        elif it.entry.call is None or run.options.strict and fails_strictly(it, run.options):
-            yield it, outcome(it)

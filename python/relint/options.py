@@ -10,14 +10,19 @@ import os
 import re
 import stat
 from dataclasses import dataclass, field, replace
-from typing import Any, Callable, Dict, FrozenSet, Iterable, List, Mapping, NamedTuple, Optional, Sequence, Tuple
+from typing import Any, Callable, Dict, Iterable, List, Mapping, NamedTuple, Optional, Sequence, Tuple
 
 from .base.model import CALLS, MODES, Narrowed
-from .base.safe import OpenError, read_named, visible
+from .base.safe import OpenError, is_below, read_named, visible
 
 OWN_FILE, SHARED_FILE, ACCEPTED_FILE = "relint.toml", "pyproject.toml", "relint-accepted.json"
 MOST_BYTES, MOST_NUMBER, MOST_PAIRS, MOST_DOTS = 1_048_576, 999_999, 1000, 1_000
-TOPS = (".git", ".hg")
+GIT, HG = ".git", ".hg"
+TOPS = (GIT, HG)
+# (the time that a glob takes grows with its length)
+MOST_OF_A_LIST = 50_000
+# Folders of version control, which no path of a configuration leads into.
+CONTROL = (".bzr", GIT, HG, ".svn")
 FORMATS = ("terminal", "concise", "github", "gitlab", "sarif", "json", "html")
 SERVERS = {"GITHUB_ACTIONS": "github", "GITLAB_CI": "gitlab"}
 # Each word with its arguments, and what it does.
@@ -94,23 +99,14 @@ class Option:
     def takes(self, value: Any) -> bool:
         """Returns whether the configuration may give it this value."""
         if self.many:
-            return isinstance(value, list) and all(isinstance(it, str) and it and "\0" not in it for it in value)
+            is_list = isinstance(value, list) and all(isinstance(it, str) and it and "\0" not in it for it in value)
+            return is_list and sum(map(len, value)) <= MOST_OF_A_LIST
         if not self.value:
             return isinstance(value, bool) or self.key == "wide" and isinstance(value, dict)
         try:
             return type(value) is (int if self.limits[1] else str) and self.read(str(value)) == value
         except OptionsError:
             return False
-
-
-def _choice(name: str, words: str, choices: Sequence[str], group: str, about: str, **more: Any) -> Option:
-    """Returns the row of an option whose value is one of some words."""
-    return Option(name, name[2:].upper(), words, group, about, choices=tuple(choices), **more)
-
-
-def _number(name: str, words: str, limits: Tuple[int, int], group: str, about: str, **more: Any) -> Option:
-    """Returns the row of an option whose value is a whole number."""
-    return Option(name, "N", words, group, about, limits=limits, **more)
 
 
 OPTIONS: Tuple[Option, ...] = (
@@ -125,12 +121,13 @@ OPTIONS: Tuple[Option, ...] = (
     Option("--takers", "FILE", TREES, "files", "", key="takers", many=True),
     Option("--trials", "", SHOWN, "files", "try patterns that can't be judged on this Python"),
     Option("--below", "FOLDER", "record", "files", "only patterns that files below FOLDER make"),
-    _number("--max-degree", JUDGED + " pattern", (0, MOST_NUMBER), "fails", "the highest degree that is no finding",
-            key="max-degree"),
-    _number("--warn-degree", SHOWN, (0, MOST_NUMBER), "fails", "show lower degrees above N too", key="warn-degree"),
-    _number("--max-pairs", JUDGED + " pattern compare", (1, MOST_PAIRS), "fails", "the limit of a pattern's live pairs",
-            key="max-pairs"),
-    _choice("--mode", JUDGED, MODES, "fails", "what compile counts as where its uses aren't known", key="compile-as"),
+    Option("--max-degree", "N", JUDGED + " pattern", "fails", "the highest degree that is no finding", key="max-degree",
+           limits=(0, MOST_NUMBER)),
+    Option("--warn-degree", "N", SHOWN, "fails", "show lower degrees above N too", key="warn-degree", limits=(0, MOST_NUMBER)),
+    Option("--max-pairs", "N", JUDGED + " pattern compare", "fails", "the limit of a pattern's live pairs", key="max-pairs",
+           limits=(1, MOST_PAIRS)),
+    Option("--mode", "MODE", JUDGED, "fails", "what compile counts as where its uses aren't known", key="compile-as",
+           choices=MODES),
     Option("--strict", "", SHOWN, "fails", "fail for what isn't judged or looked at too, and name it", key="strict"),
     Option("--baseline-commit", "REF", "check fix", "fails", "only what is new since the commit REF"),
     Option("--locked", "", "check", "fails", "with it: what the change itself accepts doesn't count"),
@@ -142,20 +139,22 @@ OPTIONS: Tuple[Option, ...] = (
     Option("--prune", "", "accept", "what", "take out what is no longer found"),
     Option("--flags", "LETTERS", "pattern compare", "what", "the flags of the call, as in im"),
     Option("--bytes", "", "pattern compare", "what", "a pattern of bytes"),
-    _choice("--call", "pattern compare", CALLS, "what", "the function of re that takes it"),
-    _number("--over", "confirm", (1, 600), "what", "the seconds that a match has to exceed"),
-    _number("--longest", "confirm", (1, 10_000_000), "what", "the longest text to try"),
-    _choice("--format", SHOWN, FORMATS, "shows", "the layout: " + ", ".join(FORMATS)),
-    _choice("--format", "pattern compare confirm", ("terminal", "json"), "shows", "the layout: terminal or json"),
+    Option("--call", "CALL", "pattern compare", "what", "the function of re that takes it", choices=CALLS),
+    Option("--over", "N", "confirm", "what", "the seconds that a match has to exceed", limits=(1, 600)),
+    Option("--longest", "N", "confirm", "what", "the longest text to try", limits=(1, 10_000_000)),
+    Option("--format", "FORMAT", SHOWN, "shows", "the layout: " + ", ".join(FORMATS), choices=FORMATS),
+    Option("--format", "FORMAT", "pattern compare confirm", "shows", "the layout: terminal or json",
+           choices=("terminal", "json")),
     Option("--write", "FORMAT=FILE", SHOWN, "shows", "write a layout to a file too; can be given again", many=True),
     Option("--all", "", SHOWN, "shows", "also name what isn't judged, accepted, unused or ignored"),
-    _number("--most", SHOWN, (0, MOST_NUMBER), "shows", "how many findings are shown in full"),
-    _choice("--color", "check fix pattern compare confirm record", ("always", "never", "auto"), "shows",
-            "always, never, or auto: on a terminal"),
+    Option("--most", "N", SHOWN, "shows", "how many findings are shown in full", limits=(0, MOST_NUMBER)),
+    Option("--color", "COLOR", "check fix pattern compare confirm record", "shows", "always, never, or auto: on a terminal",
+           choices=("always", "never", "auto")),
     Option("--quiet", "", TREES + " record", "shows", "only findings and what was left out", short="-q"),
-    _number("--jobs", JUDGED, (1, MOST_NUMBER), "runs", "how many processes at a time (all processors)", key="jobs"),
-    _number("--seconds", JUDGED + " pattern compare", (1, MOST_NUMBER), "runs", "how long the run may take in all",
-            key="seconds"),
+    Option("--jobs", "N", JUDGED, "runs", "how many processes at a time (all processors)", key="jobs",
+           limits=(1, MOST_NUMBER)),
+    Option("--seconds", "N", JUDGED + " pattern compare", "runs", "how long the run may take in all", key="seconds",
+           limits=(1, MOST_NUMBER)),
     Option("--config", "FILE", JUDGED + " server", "runs", "the configuration instead of the nearest, or none"),
     Option("--no-config", "", JUDGED + " server", "runs", ""),
 )
@@ -172,8 +171,8 @@ class Options:
     standard input, whose name is `stdin_filename`. `places` are those of `accept`, each a path, a line and a column or 0.
     `arguments` are the words of pattern, compare, explain and record. `folder` is where the configuration lies, or else the
     top of the repository, or the current folder; it is absolute, without links, and `exclude` is relative to it. `config` is
-    the path of the configuration or "", and `given` are its keys that count. `accepted` is the path of the accepted file;
-    `accepted_named` says that it has to be there. `wide_table` is the table `wide` of the configuration. `narrowed` and
+    the path of the configuration or "". `accepted` is the path of the accepted file; `accepted_named` says that it has to be
+    there. `wide_table` is the table `wide` of the configuration. `narrowed` and
     `notes` are what the configuration narrows, and what else has to be said of it. `format` is never empty.
     """
 
@@ -222,7 +221,6 @@ class Options:
     config: str = ""
     no_config: bool = False
     folder: str = "."
-    given: FrozenSet[str] = frozenset()
     narrowed: Tuple[Narrowed, ...] = ()
     notes: Tuple[str, ...] = ()
 
@@ -407,10 +405,6 @@ def _check(found: Options) -> None:
 
 # ---- the configuration
 
-# The table of a configuration, or None if there is none, and notes for the user.
-_Table = Tuple[Optional[Mapping[str, Any]], Tuple[str, ...]]
-
-
 @dataclass(frozen=True)
 class _Settings:
     """What a configuration says: its file, how that is called, its folder, its table, and notes for the user."""
@@ -435,11 +429,12 @@ def _configured(found: Options, values: Dict[str, Any], folder: str, earlier: Op
             notes.append(f"{kept.name}: {key} = {table.pop(key)} has no effect: a configuration can only lower it")
     table = {key: it for key, it in table.items() if KEYS[key].attribute not in values or key in ("exclude", "takers")}
     if found.are_named or "reports" in values:
-        table.pop("paths", None)
+        for it in table.pop("paths", ()):
+            _inside(it, kept.name, kept.folder, folder)
     top = kept.folder or _top(start) or os.path.realpath(folder)
-    found = replace(found, **_fields(table, kept, folder), config=kept.file, folder=top, given=frozenset(table))
+    found = replace(found, **_fields(table, kept, folder), config=kept.file, folder=top)
     accepted = values.get("accepted") or table.get("accepted")
-    file = values.get("accepted") or _from(folder, os.path.join(top, _below(table.get("accepted", ACCEPTED_FILE), kept, top)))
+    file = values.get("accepted") or _inside(table.get("accepted", ACCEPTED_FILE), kept.name, top, folder)
     more = {name: (*getattr(found, name), *values.get(name, ())) for name in ("exclude", "takers")}
     return replace(found, accepted=file, accepted_named=accepted is not None, notes=tuple(notes),
                    narrowed=_narrowed(table, kept.name, top), **more)
@@ -450,26 +445,27 @@ def _fields(table: Mapping[str, Any], kept: _Settings, folder: str) -> Dict[str,
     values: Dict[str, Any] = {KEYS[key].attribute: tuple(it) if isinstance(it, list) else it for key, it in table.items()}
     for key in ("paths", "takers"):
         if key in table:
-            inside = [os.path.join(kept.folder, _below(it, kept, kept.folder)) for it in table[key]]
-            values[key] = tuple(_from(folder, it) for it in inside)
+            values[key] = tuple(_inside(it, kept.name, kept.folder, folder) for it in table[key])
     if isinstance(values.get("wide"), dict):
         values.update(wide=False, wide_table=table["wide"])
     values.pop("accepted", None)
     return values
 
 
-def _below(path: str, kept: _Settings, top: str) -> str:
-    """The path itself. Raises OptionsError unless it lies below the folder `top` when all links are followed."""
-    real = os.path.realpath(os.path.join(top, path))
-    if os.path.isabs(path) or real != top and not real.startswith(os.path.join(top, "")):
-        place = kept.name or "the accepted file"
+def _inside(path: str, name: str, top: str, folder: str) -> str:
+    """A path of a configuration, seen from `folder`.
+
+    Raises OptionsError unless it lies below `top`, with links followed, and not in a folder of version control, in which a
+    token may stand.
+    """
+    whole = os.path.join(top, path)
+    real = os.path.realpath(whole)
+    place = name or "the accepted file"
+    if set(CONTROL) & set(os.path.relpath(real, top).lower().split(os.sep)):
+        raise OptionsError(f"{place}: {visible(path)} lies in a folder of version control")
+    if os.path.isabs(path) or not is_below(real, [top]):
         raise OptionsError(f"{place}: {visible(path)} doesn't lie below the configuration's folder")
-    return path
-
-
-def _from(folder: str, path: str) -> str:
-    """An absolute path, made relative to a folder."""
-    return os.path.relpath(path, os.path.realpath(folder))
+    return os.path.relpath(whole, os.path.realpath(folder))
 
 
 def _narrowed(table: Mapping[str, Any], name: str, top: str) -> Tuple[Narrowed, ...]:
@@ -496,21 +492,30 @@ def folders_above(start: str) -> List[str]:
     """Returns the folders in which a configuration is looked for, in order: `start`, and the folders above it.
 
     `start` is an absolute path without links. The last one is the first that is the top of a repository, the home folder or
-    the top of the file system, or that lies in a folder of another file system or one to which everybody may write.
+    the top of the file system, or that lies in a folder of another file system or one to which everybody may write. A folder
+    `.hg` that git could track makes no top.
     """
     home = os.path.realpath(os.path.expanduser("~"))
     found = [start]
-    while not _is_top(found[-1]) and found[-1] != home:
+    while not _has(found[-1], GIT) and found[-1] != home:
         above = os.path.dirname(found[-1])
         if above == found[-1] or not _is_trusted(above, found[-1]):
             break
         found.append(above)
-    return found
+    if _has(found[-1], GIT) and found[-1] != home:
+        return found
+    tops = [at for at, it in enumerate(found) if _has(it, HG)]
+    return found[:tops[0] + 1] if tops else found
+
+
+def _has(folder: str, name: str) -> bool:
+    """Whether a folder has something of this name."""
+    return os.path.lexists(os.path.join(folder, name))
 
 
 def _is_top(folder: str) -> bool:
     """Whether a folder is the top of a repository."""
-    return any(os.path.lexists(os.path.join(folder, it)) for it in TOPS)
+    return any(_has(folder, it) for it in TOPS)
 
 
 def _top(start: str) -> str:
@@ -531,28 +536,20 @@ def _is_trusted(above: str, below: str) -> bool:
 def _settings(named: Optional[str], start: str, earlier: Optional[Reader]) -> _Settings:
     """What the named configuration says, or the nearest one from the folder `start` on; nothing if there is none."""
     if named is not None:
-        own = os.path.basename(named) != SHARED_FILE
-        table, notes = _table(named, own, True, earlier)
+        table, notes = _table(named, True, earlier)
         return _made(named, table or {}, notes)
     said: Tuple[str, ...] = ()
     for folder in folders_above(start):
-        found = _in_folder(folder, earlier)
-        said += found.notes
-        if found.file:
-            return replace(found, notes=said)
-    return _Settings(notes=said)
-
-
-def _in_folder(folder: str, earlier: Optional[Reader]) -> _Settings:
-    """The configuration in a folder; one without a file if it has none. relint.toml wins over pyproject.toml."""
-    own, shared = os.path.join(folder, OWN_FILE), os.path.join(folder, SHARED_FILE)
-    table, notes = _table(own, True, False, earlier)
-    other, more = _table(shared, False, False, earlier)
-    if table is not None:
+        own, shared = os.path.join(folder, OWN_FILE), os.path.join(folder, SHARED_FILE)
+        (table, notes), (other, more) = (_table(it, False, earlier) for it in (own, shared))
+        if table is not None:
+            if other is not None:
+                notes += (f"{_called(shared)}: its table tool.relint has no effect, as {OWN_FILE} lies beside it",)
+            return _made(own, table, said + notes)
+        said += notes + more
         if other is not None:
-            notes = (*notes, f"{_called(shared)}: its table tool.relint has no effect, as {OWN_FILE} lies beside it")
-        return _made(own, table, notes)
-    return _made(shared, other, (*notes, *more)) if other is not None else _Settings(notes=(*notes, *more))
+            return _made(shared, other, said)
+    return _Settings(notes=said)
 
 
 def _made(file: str, table: Mapping[str, Any], notes: Tuple[str, ...]) -> _Settings:
@@ -564,7 +561,8 @@ def _made(file: str, table: Mapping[str, Any], notes: Tuple[str, ...]) -> _Setti
             hint = nearest(key.replace("_", "-"), KEYS) or f"; the keys are {', '.join(KEYS)}"
             raise OptionsError(f"{name}: there is no key {ascii(key)[:60]}{hint}")
         if not option.takes(value) or key == "paths" and not value:
-            wanted = "a list of texts" if option.many else option.wanted() if option.value else "true or false"
+            wanted = option.wanted() if option.value else "true or false"
+            wanted = f"a list of texts of {MOST_OF_A_LIST:,} characters at most" if option.many else wanted
             raise OptionsError(f"{name}: {key} = {ascii(value)[:60]}: {wanted} is wanted{nearest(str(value), option.choices)}")
     return _Settings(file, name, os.path.realpath(os.path.dirname(file) or "."), table, notes)
 
@@ -575,12 +573,9 @@ def _called(file: str) -> str:
     return visible(file if path.startswith("..") else path)
 
 
-def _table(file: str, own: bool, named: bool, earlier: Optional[Reader]) -> "_Table":
-    """The table of keys in a file, or None if it has none, and notes. Raises OptionsError if it can't be read.
-
-    `own` says that the whole file is the table, and `named` that the user named the file, so that it must have one.
-    """
-    name = _called(file)
+def _table(file: str, named: bool, earlier: Optional[Reader]) -> Tuple[Optional[Mapping[str, Any]], Tuple[str, ...]]:
+    """The table of keys in a file, which it must have if the user `named` it, and notes. Raises OptionsError."""
+    name, own = _called(file), os.path.basename(file) != SHARED_FILE
     data = _bytes_of(file, name, named) if named or os.path.lexists(file) else None
     notes: Tuple[str, ...] = ()
     if earlier is not None and (not named or _top(common_folder([file]))):

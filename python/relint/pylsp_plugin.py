@@ -31,10 +31,7 @@ class Asked:
         self._lock = threading.Lock()
 
     def ask(self, *question: Any) -> Any:
-        """Returns the answer to a question: the name of a method of `server.Editor`, and its arguments.
-
-        Raises RuntimeError, with the reason, if there is none.
-        """
+        """Returns what a method of `server.Editor` answers to the arguments; raises RuntimeError with the reason."""
         with self._lock:
             if self._process is None or self._process.poll() is not None:
                 words, pipe = [sys.executable, "-I", "-B", "-c", CODE, PACKAGES], subprocess.PIPE

@@ -15,6 +15,7 @@ import sys
 import time
 import urllib.parse
 from bisect import bisect_right
+from contextlib import closing, suppress
 from pathlib import Path
 from typing import Any, Callable, Dict, Iterator, List, Mapping, Optional, Sequence, Tuple
 
@@ -213,13 +214,11 @@ def _actions(kept: Kept, it: Finding, uri: str) -> Iterator[Json]:
     assert kept.opened is not None
     offer, code = edits.chosen(it), rule_of(it)
     if offer is not None and it.site is not None:
-        try:
+        with suppress(edits.Unchangeable):
             made = [{"range": {"start": kept.lines.position(one.start + kept.front), "end": kept.lines.position(
                 one.end + kept.front)}, "newText": one.text} for one in edits.edits(it.site, offer.pattern)]
             title = f"rlt: fix: {visible(offer.literal)}    {offer_words(offer)}"
             yield {"title": title, "edit": {"changes": {uri: made}}, "isPreferred": True}
-        except edits.Unchangeable:
-            pass
     if accepting.can_be_accepted(it, kept.opened.run.options) and accepting.key_of(it) is not None:
         title = f"rlt: accept with a reason ({accepting.class_of(it)})"
         yield {"title": title, "command": {"title": title, "command": ACCEPT,
@@ -411,10 +410,8 @@ def serve(options: Options) -> int:
     signal.signal(signal.SIGTERM, lambda *_: sys.exit(128 + signal.SIGTERM))
     words = ["--no-config"] if options.no_config else [f"--config={os.path.abspath(options.config)}"] if options.config else []
     server = Server(words, streams.JsonRpcStreamWriter(sys.stdout.buffer).write, endpoint)
-    try:
+    with closing(server.editor.judge):
         streams.JsonRpcStreamReader(server.input).listen(server.endpoint.consume)
-    finally:
-        server.editor.judge.close()
     return 0 if server.is_shut else 1
 
 

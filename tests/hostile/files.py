@@ -92,7 +92,7 @@ def options(folder: Path, program: Path) -> List[Case]:
         # (a configuration lies in a folder of its own, whose accepted file it may name)
         (folder / ("config-" + given.name)).mkdir(exist_ok=True)
         path = _kept(folder / ("config-" + given.name), "relint.toml", given.data)
-        found.append(Case("rlt --config, " + given.name, "rlt", ["--config", path, "finding.py"], REFUSED, refused=True))
+        found.append(Case("rlt --config, " + given.name, "rlt", ["--config", path, "finding.py"], STOPPED, refused=True))
     for given in inputs.accepted():
         path = _kept(folder, "accepted-" + given.name, given.data)
         found.append(Case("rlt --accepted, " + given.name, "rlt", ["--accepted", path, "finding.py"], STOPPED, refused=True))

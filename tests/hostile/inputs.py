@@ -142,6 +142,8 @@ def configurations() -> List[Given]:
         "max-degree-minus": b"max-degree = -1\n", "max-pairs-zero": b"max-pairs = 0\n", "jobs-text": b'jobs = "9"\n',
         "seconds-minus": b"seconds = -1\n", "strict-number": b"strict = 1\n", "format": b'format = "html"\n',
         "write": b'write = ["html=../x"]\n', "escape": b'"\\u001b[2J" = 1\n',
+        "accepted-in-git": b'accepted = ".git/hooks/post-commit"\n',
+        "paths-in-git": b'paths = [".GIT/config"]\n', "exclude-long": b'exclude = ["' + b"*a" * 300_000 + b'"]\n',
     }
     return [Given(name, data, True) for name, data in texts.items()]
 

@@ -53,11 +53,12 @@ def of_check(place: Place) -> Iterator[Run]:
         raw = layout in ("html", "sarif", "json", "gitlab")
         shown = ["finding.py"] if layout != "html" else []
         yield Run("rlt check --format %s ." % layout, [*words, "--all", "."], SHOWN, shows=shown, raw=raw,
-                  hides=["<img src=x"])
+                  hides=["<img src=x"] if layout == "html" else [])
         yield Run("rlt check --format %s NAMES" % layout, [*words, "--", *_NAMED], SHOWN, raw=raw)
-        yield Run("rlt check --format %s --tracked" % layout, [*words, "--tracked"], SHOWN, shows=shown, raw=raw)
+        yield Run("rlt check --format %s --tracked" % layout, [*words, "--tracked"], SHOWN, raw=raw,
+                  shows=TRACKED_FINDINGS if shown else ())
     words = place.rlt("check")
-    # (an environment that git tracks is none; a folder of that name is passed over, and counted)
+    # (an environment that git tracks is none)
     yield Run("rlt check --tracked tells what it passes over", [*words, "--tracked", "app", "lib"], frozenset([1, 3]),
               shows=["hidden_by_pyvenv.py"])
     yield Run("rlt check --color always .", [*words, "--color", "always", "patterns.py"], SHOWN, raw=True)
@@ -123,7 +124,7 @@ def of_paths(place: Place) -> Iterator[Run]:
     for name, front in {"no RELINT": "", "an empty folder in PATH": ":", "the current folder in PATH": ".:"}.items():
         code = SITE + "from relint.cli import main; sys.exit(main(['finding.py']))"
         yield Run("python3 -c with relint.cli, %s" % name, [place.python, "-I", "-B", "-c", code, str(place.site)],
-                  frozenset([1, 2]), front=front, environment={"RELINT": "", "RELINT_ASK": ""})
+                  frozenset([0, 1, 2]), front=front, environment={"RELINT": "", "RELINT_ASK": ""})
     for other in ("/bin/true", "/bin/cat", "/bin/false"):
         for variable in ("RELINT", "RELINT_ASK"):
             yield Run("rlt check with %s=%s" % (variable, other), place.rlt("check", "finding.py"), frozenset([2]),
@@ -145,7 +146,7 @@ def of_scripts(place: Place) -> Iterator[Run]:
     hooks = (place.top / ".pre-commit-hooks.yaml").read_text(encoding="utf-8")
     for entry, words in re.findall(r"entry: (.*)\n  args: \[(.*)\]", hooks):
         command = [*entry.split(), *(it.strip() for it in words.split(",") if it.strip())]
-        changed = ["names/.*", "finding\\.py"] if entry == "rlt fix" else []
+        changed = ["(?s)names/.*", "finding\\.py"] if entry == "rlt fix" else []
         yield Run("the hook's entry %s" % entry, [*command, *_NAMED], statuses, raw="relint check" in entry,
                   may_change=changed)
 

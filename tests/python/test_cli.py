@@ -68,7 +68,7 @@ class Words(unittest.TestCase):
         class Commit:
             data = None
 
-            def __init__(self, _: str, folder: str) -> None:
+            def __init__(self, _: str, folder: str, until: float) -> None:
                 seen.append(os.path.basename(folder))
 
             def close(self) -> None:

@@ -17,7 +17,8 @@ from relint.engine.ask import Asker
 from relint.options import Options
 from relint.trials import confirm, loosen
 from relint.trials.confirm import CONFIRMED, NOT_SEEN, NOT_TRIED, Limits, Outcome
-from relint.trials.trial import Trial, answers, next_k
+from relint.trials.trial import next_k
+from relint.trials.tries import Trials
 
 NO_ASK = missing("relint", "relint-ask")
 BAD = Verdict("exponential", family=Family(("", "b"), ("a",)))
@@ -55,11 +56,11 @@ class Tried(unittest.TestCase):
     def test_a_process_that_is_late_or_dies(self) -> None:
         question = {"pattern": "(a|aa)*$", "flags": 0, "bytes": False, "mode": "search", "heads": ["", "b"], "pumps": ["a"],
                     "seconds": 30.0, "longest": 100, "exponential": True}
-        trial = Trial()
+        trials = Trials(seconds=1.0)
         begun = time.monotonic()
-        self.assertEqual(answers([trial], [question, {"pattern": 5}], 1.0), [None, {"refused": mock.ANY}][:1] + [None])
+        self.assertEqual(trials.ask_all([question, {"pattern": 5}]), [None, None])
         self.assertLess(time.monotonic() - begun, 15)
-        trial.close()
+        trials.close()
 
     def test_the_next_text(self) -> None:
         self.assertEqual(next_k([(1, 1, 0.0)], 1.0, True), 2)
@@ -80,7 +81,7 @@ class Forms(unittest.TestCase):
     """Forms of patterns that relint refuses."""
 
     def made(self, pattern: Text, undecided: bool = False) -> List[Text]:
-        return [it.pattern for it in loosen.forms(pattern, 0, undecided)]
+        return loosen.forms(pattern, 0, undecided)
 
     def test_forms(self) -> None:
         cases: List[Tuple[Text, Text]] = [
@@ -120,9 +121,8 @@ class Asked(unittest.TestCase):
         found = confirm.hangs([Finding(it.entry, state=OTHER, site=it.site) for it in findings], asker, Limits(0.2), 2)
         asker.close()
         self.assertEqual([(it.known == SEEN, it.state) for it in found], [(True, NEW), (False, OTHER), (False, OTHER)])
-        seen = found[0].seen
-        assert seen is not None and found[0].verdict is not None
-        self.assertEqual((found[0].verdict.kind, seen.rules[0]), ("exponential", "lookaround's body in place"))
+        assert found[0].seen is not None and found[0].verdict is not None
+        self.assertEqual((found[0].verdict.kind, found[0].seen.seconds), ("exponential", 0.2))
 
     def test_the_command(self) -> None:
         with folder({"a.py": "import re\nre.search('^(a|aa)*$', s)\n"}) as here, \

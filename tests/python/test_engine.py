@@ -14,7 +14,7 @@ from unittest import mock
 from engine_support import folder, missing
 from relint.base.model import Place, Text
 from relint.base.words import CAUSES
-from relint.engine import engine, program
+from relint.engine import ask, engine, program
 from relint.engine.ask import LATE, Asker, question
 from relint.engine.engine import Report, ReportError, judge, read_report, read_text
 from relint.engine.program import ProgramError, located, output_of
@@ -111,16 +111,20 @@ class Found(unittest.TestCase):
         self.assertRaisesRegex(ProgramError, "took more than", output_of, ["/bin/sleep", "60"], 0.1, 10)
         self.assertRaisesRegex(ProgramError, "wrote more than", output_of, ["/bin/cat", "/dev/zero"], 10, 10)
         self.assertRaisesRegex(ProgramError, "can't be run", output_of, ["/none"], 10, 10)
+        # (the limit is set once the program runs)
+        status, said = output_of(["/bin/sh", "-c", "sleep 0.5; ulimit -v"], 60, 100)
+        self.assertEqual((status, said), (0, b"%d\n" % (program.MOST_MEMORY // 1024)))
+        self.assertEqual((program.MOST_MEMORY, engine.SECONDS_OF_A_FILE), (4 << 30, 20.0))
 
 
 class Reports(unittest.TestCase):
     """Reports that anyone wrote."""
 
     def refused(self, data: bytes, why: str = "") -> None:
-        self.assertRaisesRegex(ReportError, why, read_report, data)
+        self.assertRaisesRegex(ReportError, why, read_report, [data])
 
     def test_entries(self) -> None:
-        found = read_report(report(ENTRY, {"path": "b.py", "kind": "refused", "cause": "not-utf8", "line": 1, "column": 1}))
+        found = read_report([report(ENTRY, {"path": "b.py", "kind": "refused", "cause": "not-utf8", "line": 1, "column": 1})])
         first, second = found.entries
         self.assertEqual((first.place, first.call, first.suggest), (Place(1, 2), "search", None))
         assert first.verdict and first.verdict.family
@@ -128,7 +132,7 @@ class Reports(unittest.TestCase):
         self.assertEqual((second.cause, second.call, second.verdict), ("not-utf8", None, None))
         bound = {"degree": 1, "law": "one-degree-more"}
         undecided = {**ENTRY, "kind": "undecided", "limit": "pairs", "over": 600, "at-most": bound}
-        verdict = read_report(report(undecided)).entries[0].verdict
+        verdict = read_report([report(undecided)]).entries[0].verdict
         assert verdict and verdict.at_most
         self.assertEqual((verdict.limit, verdict.at_most.degree), ("pairs", 1))
         self.assertEqual((verdict.is_open(2), verdict.is_open(0)), (False, True))
@@ -147,6 +151,10 @@ class Reports(unittest.TestCase):
                      b'{"a":' * 100_000, b'{"entries":[' + b"[" * 9_000):
             self.refused(data)
         self.refused(report(ENTRY, x=1.5), "number")
+        wrong: List[Dict[str, Any]] = [{"version": True}, {"version": "2"}, {"findings": "1"}, {"findings": -1},
+                                       {"refused": [1]}]
+        for more in wrong:
+            self.refused(report(ENTRY, **more), "unknown version|something else than a number")
         self.refused(report(ENTRY).replace(b'"line": 1', b'"line": ' + b"1" * 5000), "number")
         self.refused(b"[" * 200_000 + b"]" * 200_000, "lists and objects")
 
@@ -160,8 +168,28 @@ class Reports(unittest.TestCase):
         for change in changes:
             self.refused(report({**ENTRY, **change}), "entry 1 of the report")
 
+    def test_parts(self) -> None:
+        data = report({**ENTRY, "path": "\u00fc\U0001f600.py"}, *[ENTRY] * 3)
+        data = data.replace(b", ", b" , \n\t").replace(b"\\u00fc", b"\xc3\xbc")
+        whole = read_report([data])
+        self.assertEqual((len(whole.entries), whole.entries[0].path), (4, "\xfc\U0001f600.py"))
+        wrong = [data[:-1], data + b" 1", data.replace(b'"version": 2', b'"version": 21'), data[:-9] + b"\xc3" + data[-9:],
+                 data.replace(b"\xc3\xbc", b"\xc3"), data.replace(b'"line": 1', b'"line": 1.5')]
+        for size in (1, 2, 3, 7, 100):
+            self.assertEqual(read_report([data[at:at + size] for at in range(0, len(data), size)]), whole)
+            for other in wrong:
+                with self.assertRaises(ReportError):
+                    read_report([other[at:at + size] for at in range(0, len(other), size)])
+
+    def test_sizes(self) -> None:
+        with mock.patch.object(engine, "MOST_BYTES", 10):
+            self.refused(report(ENTRY), "more than 10 bytes")
+        with mock.patch.object(engine, "MOST_OF_A_VALUE", 1000):
+            long = [b'{"version":"'] + [b"a" * 100] * 20
+            self.assertRaisesRegex(ReportError, "a value of more than 1,000", read_report, long)
+
     def test_time(self) -> None:
-        found = read_report(report(*[ENTRY] * 1000), time.monotonic() - 1)
+        found = read_report([report(*[ENTRY] * 1000)], time.monotonic() - 1)
         self.assertEqual(found, Report((), True))
         with mock.patch.object(engine, "MOST_ENTRIES", 10):
             self.refused(report(*[ENTRY] * 11), "more than 10 entries")
@@ -229,6 +257,12 @@ class Asking(unittest.TestCase):
         self.assertEqual(asker.count, 500)
         asker.ask_all(asked)
         self.assertEqual(asker.count, 500)
+
+    def test_what_is_forgotten_is_answered_first(self) -> None:
+        asker = self.asker()
+        asker.ask_all([question("class", "a", 0)])
+        with mock.patch.object(ask, "MOST_KEPT", 10):
+            self.assertEqual(self.patterns(asker.ask_all([question("class", it, 0) for it in "ab"])), ["a", "b"])
 
     def test_questions_that_take_too_long_or_end_the_process(self) -> None:
         asker = self.asker(seconds=4)

@@ -4,6 +4,7 @@ from __future__ import annotations
 import os
 import shutil
 import subprocess
+import time
 import unittest
 from pathlib import Path
 from typing import Any, Dict, List, Tuple
@@ -180,9 +181,10 @@ class Tracked(unittest.TestCase):
             made("submodule", "add", "-q", str(here / "other"), "inner")
             committed()
             found = chosen(tracked=True)
-            self.assertEqual(found.files, sorted(FILES))
+            # (a change could bring the file that makes a folder an environment)
+            self.assertEqual(found.files, sorted([*FILES, ".venv/v.py", "e/v.py"]))
             self.assertEqual(missed(found), [("inner", "it is a submodule", False), ("link.py", "it is a link", False)])
-            self.assertEqual(found.notes, ("left out: virtual environments (--no-default-exclude looks there too)",))
+            self.assertEqual(found.notes, ())
             self.assertEqual(chosen("inner", tracked=True).files, ["inner/b.py"])
 
     def test_a_folder_that_poses_as_a_repository(self) -> None:
@@ -233,6 +235,10 @@ class Tracked(unittest.TestCase):
             os.mkfifo(".git/HEAD")
             with mock.patch.object(git, "SECONDS_OF_A_FIND", 1.0):
                 self.assertRaises(git.GitError, git.tracked, ".")
+            begun = time.monotonic()
+            self.assertRaisesRegex(git.GitError, "took more than", choose, Options(tracked=True), begun + 1)
+            self.assertRaisesRegex(git.GitError, "took more than", git.Earlier, "HEAD", ".", begun + 2)
+            self.assertLess(time.monotonic() - begun, 15)
 
     def test_another_owner_is_named(self) -> None:
         said = "fatal: detected dubious ownership in repository at '/x'\nTo add an exception for this directory, call:\n"

@@ -1,6 +1,7 @@
 """Folding expressions of sources to patterns: what is known, and above all what isn't."""
 from __future__ import annotations
 
+import fnmatch
 import textwrap
 import unittest
 from itertools import product
@@ -72,6 +73,13 @@ def only(source: str, **others: str) -> One:
 
 # Sources whose last call has this pattern.
 KNOWN: Tuple[Tuple[str, Text], ...] = (
+    ("P = 'a'\nP = 'b'\nre.compile(P)", "b"), ("P = 'a'\nP += 'b'\nP = P * 2\nre.compile(P)", "abab"),
+    ("P = 'a'\nfor x in (1,):\n    re.compile(P)\nP = 'b'", "a"),
+    ("P = 'a'\nF = re.I\nF |= re.M\nre.compile(P, F)", "a"),
+    ("L = ['x']\nL = ['a', 'b']\nre.compile('|'.join(L))\nL = []", "a|b"),
+    ("T = dict(a='b', c='d')\nre.compile('%(c)s%(a)s' % T)", "db"), ("re.compile(''.join(dict(a=1, b=2)))", "ab"),
+    ("import string\nre.compile(f'[{string.digits}]')", "[0123456789]"),
+    ("from string import ascii_lowercase as low\nre.compile(low[:3])", "abc"),
     ("P = r'a+'\nre.compile(P)", "a+"),
     ("P: str = 'a'\nre.compile(P)", "a"),
     ("P = Q = 'a'\nre.compile(Q)", "a"),
@@ -129,8 +137,18 @@ UNKNOWN: Tuple[Tuple[str, str], ...] = (
     ("P = 'a'\ndef f(P):\n    re.compile(P)", "parameter"),
     ("P = 'a'\nf = lambda P: re.compile(P)", "parameter"),
     ("P = 'a'\ndef f(*P):\n    re.compile(P)", "parameter"),
-    ("P = 'a'\nP = 'b'\nre.compile(P)", "bound more than once"),
-    ("P = 'a'\nP += 'b'\nre.compile(P)", "bound more than once"),
+    ("P = 'a'\nP = 'b'\ndef f():\n    re.compile(P)", "bound more than once"),
+    ("for x in y:\n    re.compile(P)\n    P = 'a'\n    P = 'b'", "bound more than once"),
+    ("P = 'a'\nif x:\n    P = 'b'\nre.compile(P)", "bound more than once"),
+    ("P = 'a'\nfor P in ('b', 'c'):\n    re.compile(P)", "bound more than once"),
+    ("P = 'a'\nfor x in y:\n    re.compile(P)\n    P = 'b'", "bound more than once"),
+    ("P = 'a'\nP = P.parent\nP += 'c'\nre.compile(P)", "attribute"),
+    ("P = ['a']\nP += ['b']\nre.compile('|'.join(P))", "changed in place"),
+    ("P = 'a'\nQ = P\nP -= 1\nre.compile(P)", "operator"),
+    ("def f(p):\n    p = 'a'\n    re.compile(p)", "parameter"),
+    ("import fnmatch\nre.compile(fnmatch.translate('a*b*c'))", "glob that versions of Python translate in different ways"),
+    ("import fnmatch\nre.compile(fnmatch.translate('[a-c]'))", "glob that versions of Python translate in different ways"),
+    ("re.compile(dict(a='b', **x)['a'])", "call"), ("re.compile(dict(x, a='b')['a'])", "call"),
     ("P = 'a'\ndel P\nre.compile(P)", "bound more than once"),
     ("P = 'a'\ndef f():\n    global P\n    P = 'b'\nre.compile(P)", "bound more than once"),
     ("def f():\n    p = 'a'\n    def g():\n        nonlocal p\n        p = 'b'\n    re.compile(p)", "bound more than once"),
@@ -175,7 +193,6 @@ UNKNOWN: Tuple[Tuple[str, str], ...] = (
     ("P = 'a'\nclass A:\n    if x:\n        P = 'b'\n    re.compile(P)", "bound later or in a branch"),
     ("from enum import Enum\nclass E(Enum):\n    P = 'a'\nre.compile(E.P)", "attribute of a base class"),
     ("P = 'a'\nre.compile(P, f())", "flags: call"),
-    ("P = 'a'\nF = re.I\nF |= re.M\nre.compile(P, F)", "flags: bound more than once"),
     ("P = 'a' * 200000\nre.compile(P)", "too large"),
     ("A = 'aaaa'\n" + "".join(f"{b} = {a} * 9\n" for a, b in zip("ABCDEFG", "BCDEFGH")) + "re.compile(H)", "too large"),
     ("re.compile(''.join(range(18446744073709551615)))", "too large"),
@@ -310,6 +327,12 @@ class Known(unittest.TestCase):
                 names: Dict[str, object] = {"keep": lambda it, *_: taken.append(it)}
                 exec("import re\n" + source.replace("re.compile(", "keep("), names)
                 self.assertEqual(taken or [pattern], [pattern])
+
+    def test_globs(self) -> None:
+        for glob in ("*.py[co]", "a?b", "[!x].*", "**", "a-b"):
+            found = only(f"import fnmatch\nre.compile(fnmatch.translate({glob!r}))").pattern
+            # (the newest Python has another name for the end)
+            self.assertEqual(found, fnmatch.translate(glob).replace("\\z", "\\Z"))
 
     def test_flags(self) -> None:
         for words, flags in (

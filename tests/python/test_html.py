@@ -12,10 +12,13 @@ from html.parser import HTMLParser
 from typing import Any, Dict, List, Optional, Sequence, Tuple
 
 import chromium
-from relint.base.model import ACCEPTED, ELSEWHERE, Finding, Holder, Narrowed, NotLooked, Use, Uses
+from relint.base.model import (
+    ACCEPTED, ELSEWHERE, Finding, Holder, Literal, Narrowed, NotLooked, Reading, Site, Use, Uses, Why,
+)
+from relint.code.source import offsets_of
 from relint.options import Options
 from relint.show import html
-from screens_support import SUMMARY, cubic, exponential, refused, site, undecided
+from screens_support import ROWS, SUMMARY, cubic, exponential, refused, site, step, undecided
 
 NO_BROWSER = "" if chromium.installed() else "chromium isn't installed"
 HOSTILE = "</script><script>window.hostile=1</script><img src=x onerror=window.hostile=1>&#60;b&lt;\u2028\u202e\x1b\"'"
@@ -89,6 +92,16 @@ class Pages(unittest.TestCase):
         self.assertIn('<b class="p0">A</b> <b class="p0">A</b><span class="bar">|</span><b class="p0">A</b>',
                       page([exponential()]))
 
+    def test_parts_that_are_written_in_pieces(self) -> None:
+        literals = (Literal(r'"^(\\w+"', 28, 36), Literal(r'",?)*$"', 55, 62))
+        written = Site(ROWS, 0, literals, offsets_of(literals, ROWS))
+        ways = ((step((2, 7)), step((2, 7), ((1, 9), "round"))), (step((2, 7), ((1, 9), "round")),) * 2)
+        found = exponential(site=written, why=Why((Reading("00", ways, 0),)), lines=(
+            (2, r'ROWS = re.compile("^(\\w+"'), (3, '                  ",?)*$")')))
+        text = page([found])
+        self.assertIn(r'<b class="p0">\</b>\<b class="p0">w+</b>&quot;', text)
+        self.assertIn('&quot;<b class="p0">,?</b>)*$&quot;', text)
+
     def test_the_most_that_are_shown_in_full(self) -> None:
         found = Reader(page(mixed(), most=1))
         self.assertEqual(sum(tag == "article" for tag, _ in found.tags), 1)
@@ -105,6 +118,13 @@ class Pages(unittest.TestCase):
         self.assertEqual(sum(tag == "script" for tag, _ in found.tags), 1)
         self.assertFalse(set(text) & set("\u2028\u202e\x1b"))
         self.assertFalse([it for _, its in found.tags for it in its if it.startswith("on")])
+
+    def test_no_command_of_a_build_server(self) -> None:
+        for command in ("##[error]x", "##vso[task.complete]x"):
+            it = exponential(site=site(f"({command}|a|a)*b", 28), reason=command)
+            text = page([it], replace(SUMMARY, notes=(command,)))
+            self.assertNotIn(command, text)
+            self.assertIn(command, Reader(text).text)
 
     def test_the_policy_lets_only_its_own_style_and_script_run(self) -> None:
         text = page(mixed())

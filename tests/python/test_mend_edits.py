@@ -2,9 +2,12 @@
 from __future__ import annotations
 
 import ast
+import difflib
 import os
+import random
 import shutil
 import subprocess
+import time
 import unittest
 from pathlib import Path
 from typing import List, Tuple, Union
@@ -12,7 +15,6 @@ from unittest import mock
 
 from engine_support import folder, missing
 from relint.base.model import NEW, Entry, Finding, Literal, Offer, Place, Site, Verdict
-from relint.base.safe import FolderReader
 from relint.engine.engine import judge
 from relint.mend import edits
 from relint.options import Options
@@ -101,7 +103,7 @@ def finding(path: str, source: str, literal: str, new: str, place: Tuple[int, in
 def patched(findings: List[Finding]) -> List[str]:
     """The lines of a patch, without asking the program whether the files are what was judged."""
     with mock.patch.object(edits.Change, "verify"):
-        made = list(edits.patch(findings, FolderReader(["."]), Options()))
+        made = list(edits.changes(findings, ["."], Options(diff=True)))
     return [it for it in made if isinstance(it, str)]
 
 
@@ -115,6 +117,31 @@ class Patches(unittest.TestCase):
         self.assertEqual([it for it in lines if it.startswith(("+++", "---", "+touch"))], lines[:2])
         self.assertEqual(edits.header_name("a b"), "a b\t")
         self.assertRaises(edits.Unchangeable, edits.header_name, "\ud800")
+
+    def test_it_is_what_a_diff_says(self) -> None:
+        chance = random.Random(1)
+        for _ in range(300):
+            count = chance.randrange(1, 40)
+            text = "".join(f"{number} {chance.randrange(3)}\n" for number in range(count)) + chance.choice(["x", "x\n"])
+            # (behind a literal there is always its quote)
+            places = sorted({chance.randrange(len(text) - 2) for _ in range(chance.randrange(1, 6))})
+            ends = [min(it + chance.randrange(1, 4), end, (text + "\n").index("\n", it)) for it, end in
+                    zip(places, [*places[1:], len(text) - 2])]
+            edited = [edits.Edit(it, end, f"<{it}>" + "\n" * chance.randrange(2)) for it, end in zip(places, ends)]
+            old, new = edits.LINES.findall(text), edits.LINES.findall(edits.applied(text, edited))
+            found = list(edits.hunks(old, new, edits.blocks(text, edited)))
+            self.assertEqual(found, list(difflib.unified_diff(old, new))[2:], (text, edited))
+
+    def test_lines_that_are_alike_take_no_time(self) -> None:
+        text = "import re\nre.search(r'(a|a)*b', s)\n" + "".join(f"{it % 101}\n" for it in range(1_000_000))
+        site = site_of(text, "r'(a|a)*b'")
+        entry = Entry("a.py", "exponential", Place(2, 11), "search", Verdict("exponential"))
+        offer = Offer("fix", "a*b", "r'a*b'", Verdict("degree", 1))
+        change = edits.Change("a.py", text.encode(), [(Finding(entry, state=NEW, site=site), offer)])
+        begun = time.process_time()
+        self.assertEqual(list(change.diff())[2:6], ["@@ -1,5 +1,5 @@\n", " import re\n", "-re.search(r'(a|a)*b', s)\n",
+                                                    "+re.search(r'a*b', s)\n"])
+        self.assertLess(time.process_time() - begun, 5)
 
     @unittest.skipUnless(shutil.which("git"), "it needs git")
     def test_git_takes_it(self) -> None:
@@ -148,7 +175,7 @@ class Files(unittest.TestCase):
             findings = [own if it.entry.place == own.entry.place else it for it in every]
             Path("a.py").write_bytes(now.encode() if isinstance(now, str) else now)
             os.chmod("a.py", 0o640)
-            done = list(edits.write(findings, ["."], Options()))
+            done = [it for it in edits.changes(findings, ["."], Options()) if isinstance(it, edits.Written)]
             self.assertEqual(os.stat("a.py").st_mode & 0o777, 0o640)
             self.assertEqual([it.name for it in here.iterdir()], ["a.py"])
             return Path("a.py").read_bytes(), done[0]
@@ -176,9 +203,9 @@ class Files(unittest.TestCase):
             (here / "in" / "folder").symlink_to(here / "secret")
             for path in ("in/link.py", "in/folder/a.py", "secret/a.py"):
                 found = finding(path, SOURCE, "r'^(?P<suffix>[A-Z]+)*$'", "^(?P<suffix>[A-Z]+)?$")
-                self.assertNotEqual(list(edits.write([found], ["in"], Options()))[0].why, "")
-                made = list(edits.patch([found], FolderReader(["in"]), Options()))
-                self.assertEqual([isinstance(it, edits.Written) and it.why != "" for it in made], [True])
+                for options in (Options(), Options(diff=True)):
+                    made = list(edits.changes([found], ["in"], options))
+                    self.assertEqual([isinstance(it, edits.Written) and it.why != "" for it in made], [True])
             self.assertEqual((here / "secret" / "a.py").read_text(), SOURCE)
 
 

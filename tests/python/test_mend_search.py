@@ -20,7 +20,7 @@ from relint.mend.nodes import CHOICE, ROW, Alphabet, Node, choice, row
 from relint.mend.rules import Rule
 from relint.mend.search import EVERY_METHOD, How
 from relint.options import Options
-from relint.trials.trial import Trial
+from relint.trials.tries import Trials
 
 NO_ASK = missing("relint-ask")
 ASKER = Asker(Options())
@@ -132,7 +132,7 @@ class Refused(unittest.TestCase):
                     self.assertNotEqual(cure.differs, "", (pattern, cure))
 
     def test_without_trials_too(self) -> None:
-        blind = mock.patch.object(Trial, "kinds", lambda self, patterns, seconds: (["a"] * len(patterns), 0))
+        blind = mock.patch.object(Trials, "kinds", lambda self, patterns, seconds: (["a"] * len(patterns), 0))
         with blind, mock.patch.object(search, "RULES", FALSE), mock.patch.object(search, "WHOLE", ()):
             for cure in found(r"(?:a+|b+)*c", ONE["search"]):
                 self.assertNotEqual(cure.differs, "")
@@ -218,28 +218,27 @@ class Uses_(unittest.TestCase):
         self.assertEqual([it.kind for it in made][:1], ["better"])
 
 
-class Trials(unittest.TestCase):
+class Compared(unittest.TestCase):
     def setUp(self) -> None:
-        self.trial = Trial()
+        self.trial = Trials()
         self.addCleanup(self.trial.close)
 
     def test_kinds(self) -> None:
-        self.trial.begin("(a)|(ab)", 0, ["search", "finditer"], ["", "a", "ab", "xab"])
+        self.trial.begin("(a)|(ab)", False, 0, ["search", "finditer"], ["", "a", "ab", "xab"])
         self.assertEqual(self.trial.kinds(["(a)|(ab)", "(a)()", "ab|a", "b", "(", "a|ab"])[0], ["a", "b", "c", "-", "-", "b"])
 
     def test_bytes_and_hostile_patterns(self) -> None:
-        self.trial.begin(b"\xff+", 0, ["match"], ["\xff\xff", "\u0100", "a"])
-        self.assertEqual(self.trial.kinds([b"\xff", b"[\xfe-\xff]+"])[0], ["c", "a"])
+        self.trial.begin("\xff+", True, 0, ["match"], ["\xff\xff", "\u0100", "a"])
+        self.assertEqual(self.trial.kinds(["\xff", "[\xfe-\xff]+"])[0], ["c", "a"])
         begun = time.monotonic()
-        self.trial.begin("(a*)*b", 0, ["search"], ["a" * 60] * 20 + ["b"])
+        self.trial.begin("(a*)*b", False, 0, ["search"], ["a" * 60] * 20 + ["b"])
         self.assertEqual(self.trial.kinds(["(?:a*)*c", "a*b"])[0], ["-", "b"])
         self.assertLess(time.monotonic() - begun, 10)
 
     def test_a_process_that_dies_says_nothing(self) -> None:
-        self.trial.begin("a", 0, ["search"], ["a"])
+        self.trial.begin("a", False, 0, ["search"], ["a"])
         self.trial.kinds(["a"])
-        process = self.trial._process
-        assert process is not None
+        process = self.trial._services[0].running._process
         process.kill()
         process.wait()
         self.assertEqual(self.trial.kinds(["b"]), (["a"], 0))

@@ -138,11 +138,17 @@ class Found(unittest.TestCase):
             (top / "open").chmod(0o777)
             self.assertEqual(self.file_for("open/src")[0], "")
 
+    def test_a_folder_that_a_change_brings_hides_no_configuration(self) -> None:
+        files = {".git/HEAD": "", "relint.toml": "max-degree = 1", "src/.hg/store": "", "src/a/.hg": "", "src/a/x.py": ""}
+        with folder(files) as top:
+            self.assertEqual(self.file_for("src/a"), ("relint.toml", read_options(["src/a"])))
+            self.assertEqual((read_options(["src/a"]).max_degree, read_options(["src/a"]).folder), (1, str(top)))
+
     def test_a_pyproject(self) -> None:
         text = '[tool.relint]\nmax-degree = 1\nexclude = ["docs"]\n'
         with folder({"pyproject.toml": text, "src/pyproject.toml": "[tool.black]\nx = 1\n", "src/x.py": ""}):
             found = self.file_for("src")[1]
-            self.assertEqual((found.max_degree, found.exclude, found.given), (1, ("docs",), {"max-degree", "exclude"}))
+            self.assertEqual((found.max_degree, found.exclude), (1, ("docs",)))
         with folder({"pyproject.toml": "[tool.relint]\n", "relint.toml": "max-degree = 5"}):
             found = self.file_for()[1]
             self.assertEqual(found.max_degree, 5)
@@ -185,6 +191,15 @@ class Trusted(unittest.TestCase):
             for text in (f'paths = ["{path}"]', f'accepted = "{path}"', f'takers = ["{path}"]', f'paths = [".", "{path}"]'):
                 self.assertRegex(self.refused(text), "doesn't lie below the configuration's folder")
 
+    def test_paths_lead_into_no_folder_of_version_control(self) -> None:
+        for path in (".git", ".git/config", "a/.hg/x.py", ".GIT/hooks/post-commit", "a/../.git", "own"):
+            for text in (f'paths = ["{path}"]', f'accepted = "{path}"', f'takers = ["{path}"]'):
+                with folder({"relint.toml": text, ".git/config": "", "a/x.py": ""}):
+                    os.symlink(".git", "own")
+                    for named in ("--", "a/x.py"):
+                        with self.assertRaisesRegex(OptionsError, "lies in a folder of version control"):
+                            read_options([named])
+
     def test_the_usual_accepted_file_is_no_link_out_of_the_folder(self) -> None:
         with folder({"relint.toml": ""}):
             os.symlink("/etc/passwd", "relint-accepted.json")
@@ -221,7 +236,8 @@ class Trusted(unittest.TestCase):
             ("max-pairs = true", "True: a number"), ("max-degree = -1", "-1: a number"), ("max-degree = 1.0", "1.0: a number"),
             ("compile-as = 'serach'", "did you mean search"), ("strict = 1", "true or false is wanted"),
             ("paths = []", "list of texts"), ("paths = 'src'", "list of texts"), ("exclude = ['']", "list of texts"),
-            ('exclude = ["a\\u0000"]', "list of texts"), ("jobs = 0", "number from 1"), ("seconds = nan", "number from 1"),
+            ('exclude = ["a\\u0000"]', "list of texts"), (f'exclude = ["{"*a" * 30_000}"]', "of 50,000 characters at most"),
+            ("jobs = 0", "number from 1"), ("seconds = nan", "number from 1"),
             ("wide = 'yes'", "true or false"), ("accepted = ''", "value that isn't empty"),
             (f"accepted = ['{'x' * 500}']", "^.{1,140}$"),
             ("jobs =", r"^relint.toml: no TOML: .*--no-config"), (b"# \xff", "no TOML"), ("x = " + "[" * 100_000, "no TOML"),

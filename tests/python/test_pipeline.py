@@ -16,7 +16,7 @@ from relint.base.model import Finding, Summary
 from relint.base.words import quoted
 from relint.engine.engine import ReportError
 from relint.files import Earlier
-from relint.options import read_options
+from relint.options import Options, read_options
 from relint.show import servers
 from relint.stages import growth, pipeline
 
@@ -154,11 +154,22 @@ class Reports(unittest.TestCase):
 
     def test_names_of_other_files(self) -> None:
         with folder({"app.py": SLOW, ".git/config": "secret", ".env": "secret", ".git/h.py": "secret"}) as here:
-            paths = (".git/config", ".env", "../x.py", "/etc/passwd", ".git/h.py", f"{here}/../x.py", "app.pyc", ".git/..")
+            paths = (".git/config", ".env", "../x.py", "/etc/passwd", ".git/h.py", f"{here}/../x.py", "app.pyc", ".git/..",
+                     ".Git/h.py", "a/.HG/h.py", ".env/", "app.py\n", ".git/config/../../.env")
             for path in paths:
                 self.report(path)
                 with self.assertRaisesRegex(ReportError, "no Python source below"):
                     ran("--from", "r.json")
+
+    def test_nothing_is_shown_of_a_line_without_a_pattern(self) -> None:
+        text = 'TOKEN = "secret"\nimport re\nfrom re import compile as c\nprint("secret")\nc("(a|a)*b")\n'
+        with folder({"app.py": text + 're.match(  # secret\n  pattern= "(a|a)*c", string=t)\n'}):
+            for line, column, call, shown in ((1, 9, "compile", False), (1, 1, "search", False), (4, 7, "search", False),
+                                              (4, 7, "compile", False), (5, 3, "compile", True), (7, 12, "match", True)):
+                self.report("app.py", line=line, column=column, call=call)
+                it = ran("--from", "r.json")[0][0]
+                self.assertEqual((bool(it.lines), it.site is not None), (shown, shown), (line, column, call))
+                self.assertNotIn("secret", "".join(servers.json_report([it], Summary(), Options())))
 
     def test_limits(self) -> None:
         with folder({"app.py": SLOW}):
@@ -268,6 +279,38 @@ class Change(unittest.TestCase):
             self.assertEqual((found, got), (states, status), (before, after, words))
             added = "relint-accepted.json" in after
             self.assertEqual([it[1:] for it in summary.added_accepts], [(2, "ours")] if added else [])
+
+    def test_what_blinds_the_check(self) -> None:
+        latin, good, two = b"# coding: latin-1\n", b"import re\n", b"# \xe9\n"
+        cases: List[Tuple[Files, Mapping[str, object], int]] = [
+            ({"a.py": good}, {"new.py": latin + good}, 3), ({"a.py": good}, {"a.py": latin + good}, 3),
+            ({"a.py": good}, {"a.py": two}, 3), ({"a.py": good}, {"a.py": b"#" * 4_194_305}, 3),
+            ({"a.py": good}, {"new.ipynb": b"{"}, 3), ({"a.py": good}, {"d/" * 66 + "a.py": good}, 3),
+            ({"a.py": latin + good}, {"a.py": latin + good * 2}, 0), ({"a.py": two, "b.py": good}, {"b.py": good * 2}, 0),
+            ({"a.py": two}, {"a.py": two * 2}, 0), ({"d/" * 66 + "a.py": good}, {"b.py": good}, 0),
+            ({"n.ipynb": "{", "a.py": good}, {"n.ipynb": "{["}, 3), ({"a.py": b"# coding: utf8\n"}, {"a.py": two}, 3),
+        ]
+        for before, after, wanted in cases:
+            with folder(before):
+                git("init", "-q", ".")
+                git("add", "-A")
+                git("commit", "-q", "-m", "text")
+                for name, data in after.items():
+                    Path(name).parent.mkdir(parents=True, exist_ok=True)
+                    Path(name).write_bytes(data if isinstance(data, bytes) else str(data).encode())
+                _, summary, status = ran("--baseline-commit", "HEAD", "--locked")
+                self.assertEqual(status, wanted, (before, list(after), summary.not_looked))
+                self.assertEqual(any("this change brings it" in it.why for it in summary.not_looked), wanted == 3)
+                self.assertEqual(ran("--baseline-commit", "HEAD")[2], 0)
+        with folder({"a.py": good, "b.py": good}):
+            git("init", "-q", ".")
+            os.symlink("a.py", "old.py")
+            git("add", "-A")
+            git("commit", "-q", "-m", "text")
+            self.assertEqual(ran("--baseline-commit", "HEAD", "--locked")[2], 0)
+            os.remove("b.py")
+            os.symlink("a.py", "b.py")
+            self.assertEqual(ran("--baseline-commit", "HEAD", "--locked")[2], 3)
 
     def test_a_configuration_that_the_change_brings(self) -> None:
         narrow = 'exclude = ["*"]\nmax-degree = 9999\n'

@@ -1,6 +1,9 @@
 """What takes a pattern: the rows of the table, notebooks, and whole runs over folders."""
 from __future__ import annotations
 
+import contextlib
+import html
+import io
 import json
 import os
 import unittest
@@ -8,12 +11,13 @@ from typing import Dict, List, Mapping, Optional, Tuple
 
 from engine_support import folder, missing
 from relint.base.model import ELSEWHERE, Finding, Summary
+from relint.cli import main
 from relint.code.fold import Folder, Sources
 from relint.code.places import (
     Found, NotebookError, Takers, TakersError, notebook, own_rows, places_in, rows_in, taker_of, takers_of,
 )
 from relint.code.source import SourceError, Unit
-from relint.options import read_options
+from relint.options import FORMATS, read_options
 from relint.stages.pipeline import run
 
 BAD = r"^(\w+\s?)*$"
@@ -85,6 +89,61 @@ TAKEN: Dict[str, str] = {
         "from markdown.inlinepatterns import InlineProcessor\nmd.inlinePatterns.register(InlineProcessor({0}, md), 'del', 9)",
     "schema.Regex": "from schema import Regex\nRegex({0})",
     "formencode.validators.Regex": "from formencode import validators\nvalidators.Regex(regex={0})",
+    "trafaret.Regexp": "import trafaret as t\nt.Regexp({0})",
+    "*__regex": "Entry.objects.get(title__regex={0})",
+    "*__iregex": "from django.db.models import Q\nq = Q(title__iregex={0})",
+    "django.db.models.FilePathField": "from django.db import models\nmodels.FilePathField(path='/img', match={0})",
+    "SECURE_REDIRECT_EXEMPT": "SECURE_REDIRECT_EXEMPT = [{0}]",
+    "CORS_ALLOWED_ORIGIN_REGEXES": "CORS_ALLOWED_ORIGIN_REGEXES = [{0}]",
+    "CORS_URLS_REGEX": "CORS_URLS_REGEX = {0}",
+    "starlette.middleware.Middleware": "from starlette.middleware import Middleware\n"
+        "from starlette.middleware.cors import CORSMiddleware\nm = [Middleware(CORSMiddleware, allow_origin_regex={0})]",
+    "pandas.read_html": "import pandas as pd\npd.read_html(url, match={0})",
+    "add_css": "from scrapy.loader import ItemLoader\nl.add_css('price', 'p#price', re={0})",
+    "add_xpath": "import scrapy\nl.add_xpath('price', '//p', re={0})",
+    "add_value": "import scrapy\nl.add_value('name', 'name: foo', str.upper, re={0})",
+    "get_css": "import scrapy\nl.get_css('p', re={0})",
+    "get_xpath": "import scrapy\nl.get_xpath('//p', re={0})",
+    "get_value": "import scrapy\nl.get_value('name: foo', re={0})",
+    "replace_css": "import scrapy\nl.replace_css('price', 'p#price', re={0})",
+    "replace_xpath": "import scrapy\nl.replace_xpath('price', '//p', re={0})",
+    "replace_value": "import scrapy\nl.replace_value('name', 'x', re={0})",
+    "nltk.corpus.reader.PlaintextCorpusReader":
+        "from nltk.corpus.reader import PlaintextCorpusReader\nPlaintextCorpusReader(root, {0})",
+    "nltk.chat.util.Chat": "from nltk.chat.util import Chat\npairs = (({0}, ('Why?',)),)\nChat(pairs, reflections)",
+    "flask_restful.inputs.regex": "from flask_restful import inputs\nparser.add_argument('key', type=inputs.regex({0}))",
+    "tornado.routing.HostMatches": "from tornado.routing import HostMatches\nHostMatches({0})",
+    "add_handlers": "import tornado.web\napplication.add_handlers({0}, handlers)",
+    "read_until_regex": "from tornado.iostream import IOStream\nstream.read_until_regex({0})",
+    "jsonschema.validate": "import jsonschema\njsonschema.validate('x', {{'type': 'string', 'pattern': {0}}})",
+    "jsonschema.Draft3Validator":
+        "import jsonschema\nS = {{'properties': {{'a': {{'pattern': {0}}}}}}}\njsonschema.Draft3Validator(S)",
+    "assertRegexpMatches": "import unittest\nself.assertRegexpMatches('text', {0})",
+    "assertNotRegexpMatches": "import unittest\nself.assertNotRegexpMatches('text', {0})",
+    "assertRaisesRegexp": "import unittest\nself.assertRaisesRegexp(ValueError, {0}, int, 'x')",
+    "re_match_lines": "import pytest\nresult.stdout.re_match_lines([{0}])",
+    "sklearn.compose.make_column_selector":
+        "from sklearn.compose import make_column_selector\nmake_column_selector(pattern={0})",
+    "oslo_config.types.String": "from oslo_config import types\ntypes.String(regex={0})",
+    "pexpect.run": "import pexpect\npexpect.run('scp a b:', events={{{0}: 'secret'}})",
+    "compile_pattern_list": "import pexpect\nchild.compile_pattern_list([{0}])",
+    "add_argument": "import argparse, re\nparser.add_argument('--match', type=re.compile, default={0})",
+    "voluptuous.Replace": "from voluptuous import Replace\nReplace({0}, '')",
+    "mongoengine.StringField": "from mongoengine import StringField\nStringField(regex={0})",
+    "linkcheck_ignore": "linkcheck_ignore = [{0}]",
+    "hypothesis.strategies.from_regex": "from hypothesis import strategies as st\nst.from_regex({0})",
+}
+# Rows whose taker makes a pattern of what it gets: a source, and the pattern.
+MADE: Dict[str, Tuple[str, str]] = {
+    "markdown.inlinepatterns.Pattern": ("import markdown.inlinepatterns as m\nm.Pattern('a+')", "^(.*?)a+(.*)$"),
+    "aiohttp.web.get": ("from aiohttp import web\nweb.get(r'/a/{x:\\d{2}}/{y}', f)", r"/a/(?P<x>\d{2})/(?P<y>[^{}/]+)"),
+    "aiohttp.web.route": ("from aiohttp import web\nweb.route('*', '/{x:a+}', f)", "/(?P<x>a+)"),
+    **{name: (f"import aiohttp\nroutes.{name}('/{{x:a+}}')", "/(?P<x>a+)") for name in (
+        "get", "post", "put", "patch", "delete", "head", "options", "view", "add_get", "add_post", "add_put", "add_patch",
+        "add_delete", "add_head", "add_options", "add_view", "add_resource")},
+    "route": ("import aiohttp\nroutes.route('GET', '/{x:a+}')", "/(?P<x>a+)"),
+    "add_route": ("import pyramid\nconfig.add_route('x', '/{y}/{x:a+}')", "/(?P<y>[^/]+)/(?P<x>a+)$"),
+    "bottle.route": ("from bottle import route\nroute(r'/<x:re:\\d+>/<y:int>', 'GET')", r"^(/(?P<x>\d+)/(?P<y>-?\d+))$"),
 }
 # More uses of rows whose name another row has too.
 MORE = (
@@ -94,6 +153,42 @@ MORE = (
     "from parsel import Selector\nselector.css('a').re_first({0})",
     "import warnings\nwarnings.filterwarnings('ignore', module={0})",
     "from werkzeug.routing import BaseConverter\nclass C(BaseConverter):\n    def __init__(self):\n        self.regex = {0}",
+    "class C:\n    regex = {0}\n    def to_python(self, v): 1\n    def to_url(self, v): 1",
+    "Entry.objects.filter(a=1, **{{'b__c__regex': {0}}})",
+    "from starlette.convertors import Convertor\nclass C(Convertor):\n    regex = {0}",
+    "from pydantic import ConstrainedStr\nclass C(ConstrainedStr):\n    regex = {0}",
+    "import pandas as pd\ndf.replace({0}, 'x', regex=True)", "import pandas as pd\ndf.replace([{0}], 'x', regex=True)",
+    "from scrapy.linkextractors import LinkExtractor\nLinkExtractor(restrict_text={0})",
+    "import tornado.web\na.add_handlers(host, [({0}, Handler)])", "import re\nlist(map(re.compile, [{0}]))",
+    "from formencode import validators\nclass C(validators.Regex):\n    regex = {0}",
+    "from pygments.lexers.c_cpp import CppLexer\nclass C(CppLexer):\n    tokens = {{'root': [({0}, Text)]}}",
+    "from pygments.lexer import RegexLexer\nclass B(RegexLexer):\n    a = 1\nclass C(B):\n    tokens = {{'r': [({0}, T)]}}",
+    "from markdown.inlinepatterns import InlineProcessor as I\nclass P(I):\n    a = 1\nclass Q(P):\n    b = 1\nQ({0}, md)",
+    "import tornado.web as w\nclass A(w.Application):\n    def __init__(s):\n        its = [({0}, H)]\n"
+    "        super().__init__(its)",
+    "from nltk import RegexpTokenizer as R\nclass A(R):\n    def __init__(self):\n        R.__init__(self, {0})",
+    "import jsonschema\nA = {{'pattern': {0}}}\nB = {{'items': [A]}}\njsonschema.validate(1, B)\njsonschema.validate(2, B)",
+    "from jsonschema import validate\nvalidate(1, {{'patternProperties': {{{0}: {{'default': {{'pattern': 'x'}}}}}}}})",
+)
+# Uses by which nothing is known for sure.
+NOT_SURE = (
+    "import jsonschema\nA = {{'pattern': {0}}}\nA['pattern'] = x\njsonschema.validate(1, A)",
+    "import jsonschema\nA = {{'pattern': {0}}}\nf(A)\njsonschema.validate(1, A)",
+    "import jsonschema\nA = {{'pattern': {0}}}\nB = {{'items': A}}\nB['items'].clear()\njsonschema.validate(1, B)",
+    "import jsonschema\nA = B = {{'pattern': {0}}}\nB.clear()\njsonschema.validate(1, A)",
+    "import jsonschema\nif x:\n    A = {{'pattern': {0}}}\nelse:\n    A = y\njsonschema.validate(1, A)",
+    "import jsonschema\njsonschema.validate(1, {{'properties': {{'pattern': {{'enum': [{0}]}}}}}})",
+    "import jsonschema\njsonschema.validate(1, {{'pattern': {{'pattern': 1}}, 'enum': [{{'pattern': {0}}}]}})",
+    "import nltk\nA = [({0}, 'X')]\nA.append(('b', 'Y'))\nnltk.RegexpTagger(A)",
+    "from markdown.inlinepatterns import InlineProcessor as I\nclass P(I):\n    def __init__(self, *its): 1\nP({0}, md)",
+    "from markdown.inlinepatterns import InlineProcessor as I\nclass P(I, Other):\n    a = 1\nP({0}, md)",
+    "from markdown.inlinepatterns import InlineProcessor as I\n@dataclass\nclass P(I):\n    a: str\nP({0}, md)",
+    "import jsonschema\njsonschema.validate(1, {{'pattern': {0}, **x}})",
+    "import nltk\nnltk.RegexpTagger(**{{'regexps': [({0}, 1)], **x}})",
+    "import nltk\nfor x in ({0}, 'b'):\n    A = [(x, 'X')]\nnltk.RegexpTagger(A)",
+    "class C:\n    regex = {0}\n    def to_python(self, v): 1", "import pandas\ndf.replace({{'A': {0}}}, 'x', regex=True)",
+    "import aiohttp\nsession.get('http://h/{{x:' + {0} + '}}')", "import bottle\nbottle.get('/<x:list:' + {0} + '>')",
+    "import argparse\nparser.add_argument('--match', type=str, default={0})",
 )
 NOT_TAKEN = (
     "import pandas\nframe.a.str.contains({0}, regex=False)",
@@ -103,8 +198,9 @@ NOT_TAKEN = (
     "from django.urls import path\npath({0}, view)",
     "import ply.lex\nt_ignore = {0}",
     "from other import Field\nField(pattern={0})",
-    "import re\nP = re.compile({0})\nre.search(P, 'x')",
-    "import pandas as pd\npd.read_csv('data.csv', sep=',')", "import pandas as pd\ndf.replace({0}, 'x', regex=True)",
+    "import re\nP = re.compile({0})\nre.search(P, 'x')", "import re, pytest\npytest.raises(E, match=re.compile({0}))",
+    "import re\nclass A:\n    P = re.compile({0})\n    def f(self):\n        re.search(self.P, 'x')",
+    "import pandas as pd\npd.read_csv('data.csv', sep=',')",
 )
 # Plain Python, with the patterns that are found beside literals.
 PLAIN: Tuple[Tuple[str, Tuple[Optional[str], ...]], ...] = (
@@ -115,7 +211,17 @@ PLAIN: Tuple[Tuple[str, Tuple[Optional[str], ...]], ...] = (
     ("re.compile('a' + 'b', re.I + re.U)", ("ab",)),
     ("def c(p, f=re.I):\n    return re.compile('^' + p, f)\nX = c('a')\nY = c(p='b', f=0)\nc(z)\nmap(c, q)",
      ("^a", "^b", None)),
-    ("c = lambda p: re.compile(p)\nX = c('a')", ("a",)),
+    ("c = lambda p: re.compile(p)\nX = c('a')", ("a",)), ("c = re.compile\nc('a')", ("a",)),
+    ("import functools\n@functools.lru_cache(maxsize=9)\ndef c(p):\n    return re.compile(p)\nc('a')", ("a",)),
+    ("from functools import partial\nc = partial(re.compile, flags=re.I)\nc('a')\nc('b', flags=0)", ("a", "b")),
+    ("class A:\n    def c(self, p):\n        return re.compile(p)\n    def f(self):\n        self.c('a')", ("a",)),
+    ("class A:\n    Q = 'q'\n    def c(self, p):\n        return re.compile(self.Q + p)\n    def f(self):\n"
+     "        self.c('a')\n        self.c(x)", ("qa", None)),
+    ("class A:\n    def c(self):\n        return re.compile(self)\n    def f(self):\n        self.c()", (None,)),
+    ("class A(B):\n    def c(self, p):\n        return re.compile(p)\n    def f(self):\n        self.c('a')", (None,)),
+    ("class A:\n    def c(self, p):\n        return re.compile(p)\n    def f(self):\n        self.c('a')\nA.c = x", (None,)),
+    ("def c(p):\n    return re.compile(p)\nc('a')\nimport sys\nsys.modules[__name__].c = x", (None,)),
+    ("re.compile(**{'pattern': 'a'})\nre.compile(flags=re.I, pattern='b')", ("a", "b")),
     ("def f(s, p='a+'):\n    return re.search(p, s)", ("a+",)),
     ("class A:\n    def f(self, s, p='a+'):\n        q = p + '$'\n        return re.search(q, s)", ("a+$",)),
     ("def f(p):\n    p = p + 'a'\n    return re.compile(p)\nf('b')", (None,)),
@@ -142,7 +248,17 @@ class Table(unittest.TestCase):
     """The rows of the table."""
 
     def test_each_row_has_a_source(self) -> None:
-        self.assertEqual(set(TAKEN), {it.name for it in takers_of(own_rows())})
+        self.assertEqual({*TAKEN, *MADE}, {it.name for it in takers_of(own_rows())})
+
+    def test_patterns_that_takers_make(self) -> None:
+        for name, (source, pattern) in MADE.items():
+            with self.subTest(taker=name):
+                self.assertEqual([(it.site.pattern, it.site.taker) for it in found_in(source) if it.site], [(pattern, name)])
+
+    def test_what_is_not_sure(self) -> None:
+        for source in NOT_SURE:
+            with self.subTest(source=source):
+                self.assertEqual(patterns(source.format(repr(BAD))), [])
 
     def test_each_row(self) -> None:
         for name, source in TAKEN.items():
@@ -162,6 +278,12 @@ class Table(unittest.TestCase):
         for source in NOT_TAKEN:
             with self.subTest(source=source):
                 self.assertEqual([it for it in found_in(source.format(repr(BAD))) if not it.is_literal], [])
+
+    def test_hostile_displays_end(self) -> None:
+        names = [f"T{at} = {{'a': T{at + 1}, 'b': [T{at + 1}] * 1, 'c': {{'d': T{at + 1}}}}}" for at in range(40)]
+        source = "\n".join(["import jsonschema", *names, "A = {'x': A, 'y': A}", "jsonschema.validate(1, T0)",
+                            "jsonschema.validate(1, A)", f"jsonschema.validate(1, {'[' * 90}{{'pattern': 'x'}}{']' * 90})"])
+        self.assertEqual(patterns(source), ["x"])
 
     def test_flags_of_takers(self) -> None:
         source = "from wtforms.validators import Regexp\nimport re, ply.lex\nRegexp('a', re.I)\nt_A = 'a'\n"
@@ -230,6 +352,17 @@ class Notebooks(unittest.TestCase):
         found = notebook(json.dumps(data).encode())
         self.assertEqual((found.text, found.left_out, found.origin(3)), ("\n\na = 1\n", (), (2, 1)))
 
+    def test_no_command_hides_python(self) -> None:
+        for text, wanted, left in (
+                ("%%time\na = 1", "pass\na = 1\n", ()), ("%%capture out\na = 1", "pass\na = 1\n", ()),
+                ("!ls\na = 1  # why?", "pass\na = 1  # why?\n", ()), ("%ls\na?\na.b??", "pass\npass\npass\n", ()),
+                ("!ls\n%timeit f(1)", "pass\npass;   f(1)\n", ()), ("if a:\n  %time f(1)", "if a:\n  pass; f(1)\n", ()),
+                ("a = (5\n  % 3)", "a = (5\n  % 3)\n", ()), ("a = \"\"\"\n!b\n\"\"\"", "a = \"\"\"\n!b\n\"\"\"\n", ()),
+                ("%%cython\ncdef int a", "\n\n", (1,)), ("%%writefile a.py\na = 1", "pass\na = 1\n", ()),
+                (" %%HTML\na = 1", "\n\n", ()), ("%timeit -n 9 f(1)\nb c", "\n\n", (1,))):
+            found = notebook(json.dumps({"cells": [{"cell_type": "code", "source": text}]}).encode())
+            self.assertEqual((found.text, found.left_out), (wanted, left), text)
+
 
 def ran(files: Mapping[str, object], *words: str) -> Tuple[List[Finding], Summary]:
     """What `rlt check` finds in files beside what the program reads itself."""
@@ -296,11 +429,25 @@ class Runs(unittest.TestCase):
         self.assertTrue(any("mode has to be one of" in it for it in summary.notes))
 
     def test_a_word_that_stands_for_a_part(self) -> None:
-        findings, _ = ran({"a.py": "import re\ndef f(x):\n    return re.search('^' + re.escape(x) + '(a+)+$', 's')\n"})
-        site: Optional[object] = findings[0].site
-        assert findings[0].site is not None and site is not None
-        self.assertTrue(findings[0].site.stands_in)
-        self.assertEqual(findings[0].site.notes, ("with 'word' for re.escape(x)",))
+        files = {"a.py": "import re\ndef f(x):\n    return re.search('^' + re.escape(x) + '(a+)+$', 's')\n"}
+        site = ran(files)[0][0].site
+        assert site is not None
+        self.assertEqual((site.stands_in, site.notes), (True, ("with 'word' for re.escape(x)",)))
+        with folder({".git/HEAD": "", "out/x": "", **files}) as top, contextlib.redirect_stdout(io.StringIO()):
+            self.assertEqual(main(["check", *(f"--write={it}=out/{it}" for it in FORMATS)]), 1)
+            for it in FORMATS:
+                with self.subTest(layout=it):
+                    text = html.unescape((top / "out" / it).read_text(encoding="utf-8"))
+                    self.assertIn("with 'word' for re.escape(x)", text)
+
+    def test_each_layout_says_that_a_pattern_is_in_a_test(self) -> None:
+        files = {"tests/a.py": "import re\nre.search('(a+)+$', 's')\n",
+                 "test_b.py": "import re\nP = '(a+)+$'\nre.search(P, 's')\n"}
+        with folder({".git/HEAD": "", "out/x": "", **files}) as top, contextlib.redirect_stdout(io.StringIO()):
+            main(["check", *(f"--write={it}=out/{it}" for it in FORMATS)])
+            for it in FORMATS:
+                with self.subTest(layout=it):
+                    self.assertGreater((top / "out" / it).read_text(encoding="utf-8").count("in a test"), 1)
 
 
 if __name__ == "__main__":

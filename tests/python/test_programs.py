@@ -6,20 +6,17 @@ import unittest
 
 import programs
 
-# Seeds of programs that were folded wrongly once.
-KEPT = (1675, 1815)
-
 
 class Programs(unittest.TestCase):
     """Folding beside Python itself."""
 
-    def test_kept_seeds(self) -> None:
-        self.assertEqual(programs.wrong(KEPT, programs.Count()), [])
+    def test_kept(self) -> None:
+        self.assertEqual(programs.wrong(programs.kept(), programs.Count()), [])
 
     def test_many(self) -> None:
         count, total = programs.Count(), int(os.environ.get("RELINT_EXAMPLES", "300"))
         for at in range(0, total, 500):
-            self.assertEqual(programs.wrong(range(at, min(at + 500, total)), count), [])
+            self.assertEqual(programs.wrong(programs.of_seeds(range(at, min(at + 500, total))), count), [])
         self.assertGreater(count.known * 6, count.run)
 
 

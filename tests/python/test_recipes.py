@@ -17,6 +17,11 @@ NOTES = """#!/bin/sh
 read -r status <"$NOTES.statuses" || status=0
 sed -i 1d "$NOTES.statuses"
 cat "$NOTES.says"
+for it; do
+    case $status.$it in
+        [013].sarif=*) [ -z "${WRITES:-}" ] || { echo "{}" >"$NOTES.new" && mv "$NOTES.new" "${it#sarif=}"; } ;;
+    esac
+done
 exit "$status"
 """
 
@@ -152,8 +157,12 @@ class Action(Scratch):
         self.assertEqual((self.calls(), self.output()), ([["check", "--tracked", "--format", "github", "--"]], ""))
 
     def test_lines_and_sarif(self) -> None:
-        for status, written in ((1, "written=true\n"), (4, ""), (2, ""), (0, "written=true\n")):
+        for status, writes, written in ((1, "1", "written=true\n"), (4, "1", ""), (2, "1", ""), (0, "1", "written=true\n"),
+                                        (3, "1", "written=true\n"), (3, "", ""), (1, "", "")):
+            # (a run that ends early leaves the file of the change itself there)
+            (self.project / "out.sarif").write_text("{}")
             (self.room / "output").write_text("")
+            self.env["WRITES"] = writes
             self.set_up("{}\n", [status])
             ran = self.step(paths="src\na b\n\n", arguments="--max-degree\n1", sarif="out.sarif")
             self.assertEqual((ran.returncode, self.output()), (status, written))
@@ -180,7 +189,13 @@ class Files(unittest.TestCase):
         gitlab = (TOP / "examples/ci/gitlab.yml").read_text()
         for text in (gitlab, (TOP / "packaging/action").read_text()):
             self.assertRegex(text, r"--baseline-commit \S+ --locked")
+        self.assertIn("--locked --tracked", gitlab)
         self.assertIn("steps.check.outputs.written == 'true'", (TOP / "action.yml").read_text())
+
+    def test_no_page_runs_a_module_of_the_current_folder(self) -> None:
+        pages = [*TOP.glob("*.md"), *TOP.glob("docs/*.md"), *TOP.glob("examples/**/*"), *TOP.glob("editors/**/*")]
+        for path in (it for it in pages if it.is_file() and it.name != "SECURITY.md"):
+            self.assertNotRegex(path.read_text(encoding="utf-8", errors="replace"), r"python3? -m relint", path)
 
     def test_the_hooks_run_what_there_is(self) -> None:
         text = (TOP / ".pre-commit-hooks.yaml").read_text()

@@ -65,11 +65,8 @@ class Files(unittest.TestCase):
             self.assertEqual(os.listdir(), ["pipe"])
 
     def test_a_full_disk_keeps_the_old_file(self) -> None:
-        def full(*_: object) -> int:
-            raise OSError(28, "No space left on device")
-
         with folder({"old": "old"}) as here:
-            with mock.patch.object(os, "write", full):
+            with mock.patch.object(os, "fsync", side_effect=OSError(28, "No space left on device")):
                 self.assertRaisesRegex(WriteError, "No space left", replace_file, "old", b"new")
             self.assertEqual(((here / "old").read_text(), os.listdir()), ("old", ["old"]))
 
@@ -113,6 +110,8 @@ class Opened(unittest.TestCase):
             self.refused("a link or no folder", "folder/a.py")
             self.refused("no regular file", "pipe")
             self.refused("no regular file", "src")
+            self.assertRaisesRegex(OpenError, "no regular file", safe.read_named, "src", 10)
+            self.assertEqual(safe.read_named("src/link.py", 10), b"a")
             self.refused("more than 10 bytes", "long")
             self.refused("isn't there", "none")
             self.refused("outside of src", "src/../secret", "src")

@@ -30,7 +30,7 @@ def made(layout: Callable[..., Any], findings: Sequence[Finding], summary: Summa
 
 
 def mixed() -> List[Finding]:
-    seen = exponential(known=SEEN, seen=Seen("CPython 3.11", 40, 1.0, 13, "a"))
+    seen = exponential(known=SEEN, seen=Seen("CPython 3.11", 40, 1.0, 13))
     return [cubic(), exponential(), refused(), undecided(), exponential(state=ACCEPTED, reason="it is short"),
             cubic(state=IGNORED), cubic(state=KNOWN), seen]
 
@@ -161,7 +161,7 @@ class Json(unittest.TestCase):
     def test_json_is_read_back(self) -> None:
         findings = mixed()
         text = made(servers.json_report, findings)
-        found = read_report(text.encode())
+        found = read_report([text.encode()])
         self.assertEqual(list(found.entries), [it.entry for it in findings if it.known == PROVED])
         whole = json.loads(text)
         self.assertEqual((whole["version"], whole["refused"], whole["undecided"], len(whole["beyond"])), (2, 1, 1, 1))

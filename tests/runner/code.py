@@ -25,9 +25,9 @@ _FOLDERS = ("bench", "editors", "examples", "fuzz", "packaging", "python", "test
 
 
 def python_files(folder: str) -> List[Path]:
-    """The Python code of a folder of the project: files `.py`, and programs whose first line names Python."""
+    """The Python code of a folder of the project: files `.py`, and programs that name Python first; none of the data."""
     return [path for path in scratch.files_of_tree()
-            if path.parts[0] == folder and not (TREE / path).is_symlink()
+            if path.parts[0] == folder and path.parts[:2] != ("tests", "data") and not (TREE / path).is_symlink()
             and (path.suffix == ".py" or _is_script(TREE / path))]
 
 

@@ -1,16 +1,20 @@
 """The types that the stages hand on: one `Finding` for each entry of a run, and the parts of it.
 
-All are frozen. A stage takes findings and returns findings, each with one group of fields filled in. Spans are pairs of
-offsets, from 0, the end excluded: in a pattern they count its characters (or bytes), in a source its characters. Lines and
-columns count from 1.
+All but `Clock` are frozen. A stage takes findings and returns findings, each with one group of fields filled in. Spans are
+pairs of offsets, from 0, the end excluded: in a pattern they count its characters (or bytes), in a source its characters.
+Lines and columns count from 1.
 """
 from __future__ import annotations
 
+import time
 from dataclasses import dataclass, field
-from typing import Any, List, Mapping, Optional, Tuple, Union
+from typing import Any, Iterator, List, Mapping, Optional, Sequence, Tuple, TypeVar, Union
 
 Text = Union[str, bytes]
 Span = Tuple[int, int]
+Item = TypeVar("Item")
+# So many entries are shown even if time ran out; of the time that is left, this part is for what is shown one by one.
+MOST_AFTER, PART_OF_THE_REST = 100, 0.75
 
 MODES = ("search", "match", "fullmatch")
 CALLS = ("compile", "match", "search", "fullmatch", "findall", "finditer", "split", "sub", "subn")
@@ -169,6 +173,11 @@ class Site:
     stands_in: bool = False
     cell: Optional[int] = None
 
+    @property
+    def said(self) -> Tuple[str, ...]:
+        """The notes, and that it is in a test."""
+        return (*self.notes, *(["in a test"] if self.in_tests else []))
+
 
 @dataclass(frozen=True)
 class Use:
@@ -216,10 +225,7 @@ class Decision:
 
 @dataclass(frozen=True)
 class Step:
-    """The reading of one character: the part of the pattern that takes it, and the decisions on the way there.
-
-    `place` is None where the search itself skips the character.
-    """
+    """How one character is read: by which part of the pattern, or by the search itself, and the decisions before."""
 
     place: Optional[Span]
     took: Tuple[Decision, ...] = ()
@@ -294,9 +300,7 @@ class Seen:
     length: int
     seconds: float
     k: int
-    form: Text
     family: Optional[Family] = None
-    rules: Tuple[str, ...] = ()
 
 
 @dataclass(frozen=True)
@@ -330,6 +334,11 @@ class Finding:
         return self.by_mode.get(self.mode, self.entry.verdict)
 
     @property
+    def pattern(self) -> Text:
+        """The pattern, or "" if it isn't known."""
+        return self.site.pattern if self.site is not None else ""
+
+    @property
     def place(self) -> Place:
         """The place of the entry; line 1, column 1 if it has none."""
         return self.entry.place or Place(1, 1)
@@ -344,13 +353,15 @@ class Finding:
 class NotLooked:
     """Something that wasn't looked at, with the reason as a clause; `count` is how many, if `path` is only the first.
 
-    `fails` says that the status is 3: it was named, or the system refused to read it.
+    `fails` says that the status is 3: it was named, or the system refused to read it. `is_part` says that some of it was
+    judged.
     """
 
     path: str
     why: str
     count: int = 1
     fails: bool = False
+    is_part: bool = False
 
 
 @dataclass(frozen=True)
@@ -362,12 +373,35 @@ class Narrowed:
     hides: int = 0
 
 
+@dataclass
+class Clock:
+    """The time of `time.monotonic` at which a run ends; `left` says how many entries weren't shown before it."""
+
+    end: float = float("inf")
+    until: float = float("inf")
+    left: int = 0
+
+    def share(self, of: int) -> None:
+        """Gives the layout that is written next one of so many equal shares of the time that is left."""
+        now = time.monotonic()
+        self.until = now + (self.end - now) / of * PART_OF_THE_REST
+
+    def within(self, items: Sequence[Item]) -> Iterator[Item]:
+        """Yields the items until the time is over, but at least MOST_AFTER."""
+        for number, it in enumerate(items):
+            if number >= MOST_AFTER and time.monotonic() >= self.until:
+                self.left = max(self.left, len(items) - number)
+                return
+            yield it
+
+
 @dataclass(frozen=True)
 class Summary:
     """What a run did, besides its findings: for the last lines and for the status.
 
     `files` and `patterns` count what was judged. `not_looked` is named in every format. `unused_ignores` are the ignore
-    comments that hid nothing. `late` says that time ran out before all was done. `version` is that of the package.
+    comments that hid nothing. `late` says that time ran out before all was done, and `clock` how much is left for showing
+    it. `version` is that of the package.
     """
 
     files: int = 0
@@ -382,3 +416,4 @@ class Summary:
     steps_a_second: Optional[int] = None
     folders: Tuple[str, ...] = (".",)
     version: str = ""
+    clock: Clock = field(default_factory=Clock, compare=False)

@@ -8,7 +8,7 @@ from __future__ import annotations
 import json
 import os
 import platform
-from typing import Any, Optional
+from typing import Optional
 
 from .safe import OpenError, WriteError, read_below, replace_file
 
@@ -16,17 +16,11 @@ VERSION = 1
 MOST_BYTES = 1000
 # No Python does fewer than LEAST or more than MOST steps per second.
 LEAST, MOST = 1000, 10**12
-KEYS = {"version", "python", "machine", "steps-a-second"}
 
 
 def python_name() -> str:
     """Returns the name and the version of the Python that runs this."""
     return f"{platform.python_implementation()} {platform.python_version()}"
-
-
-def machine_name() -> str:
-    """Returns the network name of this machine and the type of its processor, with a blank between them."""
-    return f"{platform.node()} {platform.machine()}"
 
 
 def file_name() -> Optional[str]:
@@ -37,18 +31,11 @@ def file_name() -> Optional[str]:
     return os.path.join(cache, "relint", "rate.json") if os.path.isabs(cache) else None
 
 
-def of_data(data: bytes) -> Optional[int]:
-    """Returns the steps per second in the content of a file; None if it has no valid number for this Python and machine."""
-    try:
-        found: Any = json.loads(data.decode("ascii"))
-    except (ValueError, RecursionError):
-        return None
-    if not isinstance(found, dict) or found.keys() != KEYS or type(found["version"]) is not int:
-        return None
-    if (found["version"], found["python"], found["machine"]) != (VERSION, python_name(), machine_name()):
-        return None
-    rate = found["steps-a-second"]
-    return rate if type(rate) is int and LEAST <= rate <= MOST else None
+def _content(rate: int) -> bytes:
+    """The content of the file for a rate."""
+    machine = f"{platform.node()} {platform.machine()}"
+    whole = {"version": VERSION, "python": python_name(), "machine": machine, "steps-a-second": rate}
+    return json.dumps(whole, sort_keys=True).encode("ascii") + b"\n"
 
 
 def kept() -> Optional[int]:
@@ -57,8 +44,10 @@ def kept() -> Optional[int]:
     if path is None or not os.path.lexists(path):
         return None
     try:
-        return of_data(read_below(path, [os.path.dirname(path)], MOST_BYTES))
-    except OpenError:
+        data = read_below(path, [os.path.dirname(path)], MOST_BYTES)
+        rate = json.loads(data)["steps-a-second"]
+        return rate if type(rate) is int and LEAST <= rate <= MOST and data == _content(rate) else None
+    except (OpenError, ValueError, RecursionError, LookupError, TypeError):
         return None
 
 
@@ -67,10 +56,9 @@ def keep(rate: int) -> str:
     path = file_name()
     if path is None:
         raise WriteError("the user has no home folder")
-    whole = {"version": VERSION, "python": python_name(), "machine": machine_name(), "steps-a-second": rate}
     try:
         os.makedirs(os.path.dirname(path), 0o700, exist_ok=True)
     except OSError as error:
         raise WriteError(error.strerror or str(error)) from error
-    replace_file(path, json.dumps(whole, sort_keys=True).encode("ascii") + b"\n", os.path.dirname(path))
+    replace_file(path, _content(rate), os.path.dirname(path))
     return path

@@ -6,16 +6,18 @@ nobody writes. A file is checked after it was opened, so exchanging it between t
 from __future__ import annotations
 
 import errno
+import importlib
 import os
 import re
 import stat
 import sys
-from typing import Dict, List, Optional, Sequence, Tuple, Union
+from contextlib import closing, contextmanager, suppress
+from typing import Dict, Iterator, List, Optional, Sequence, Tuple, Union
 
 # The largest source in bytes, which is the program's limit too.
 LARGEST_SOURCE = 4_194_304
-HERE = (".",)
 READ_AT_A_TIME = 1 << 20
+HERE = (".",)
 MOST_FOLDERS = 64
 FOLDER = os.O_DIRECTORY | getattr(os, "O_PATH", os.O_RDONLY) | os.O_CLOEXEC
 FILE = os.O_RDONLY | os.O_NOFOLLOW | os.O_NONBLOCK | os.O_NOCTTY | os.O_CLOEXEC
@@ -158,25 +160,19 @@ class FolderReader:
 
 def read_below(path: str, folders: Sequence[str] = HERE, most: int = LARGEST_SOURCE) -> bytes:
     """Returns the bytes of the file at a path that lies in one of the folders or is one of `folders`; raises OpenError."""
-    reader = FolderReader(folders)
-    try:
+    with closing(FolderReader(folders)) as reader:
         return reader.read(path, most)
-    finally:
-        reader.close()
 
 
 def read_named(path: str, most: int) -> bytes:
-    """Returns the bytes of a file that the user names, which may be a link and lie anywhere.
+    """Returns the bytes of a file that the user names, which may be a link and lie anywhere; raises OpenError."""
+    return b"".join(parts_named(path, most))
 
-    Raises OpenError if it can't be read, isn't a regular file, or has more than `most` bytes.
-    """
+
+def parts_named(path: str, most: int) -> Iterator[bytes]:
+    """Yields what `read_named` returns, in parts."""
     try:
-        file = os.open(path, FILE & ~os.O_NOFOLLOW)
-        try:
-            _check(os.fstat(file), most)
-            return read_all(file, most)
-        finally:
-            os.close(file)
+        yield from _parts(os.open(path, FILE & ~os.O_NOFOLLOW), most)
     except (OSError, ValueError) as error:
         raise OpenError(reason(error)) from error
 
@@ -185,34 +181,30 @@ def read_in(holder: int, name: str, most: int) -> bytes:
     """Returns the bytes of the file `name` in the folder with the descriptor `holder`; raises OSError or OpenError."""
     # (a device isn't even opened, since opening alone can have an effect)
     _check(os.stat(name, dir_fd=holder, follow_symlinks=False), most)
-    file = os.open(name, FILE, dir_fd=holder)
-    try:
-        _check(os.fstat(file), most)
-        return read_all(file, most)
-    finally:
-        os.close(file)
+    return b"".join(_parts(os.open(name, FILE, dir_fd=holder), most))
 
 
 def _check(found: os.stat_result, most: int) -> None:
     """Raises OpenError if a file with this status is a link, isn't a regular file, or has more than `most` bytes."""
-    if stat.S_ISLNK(found.st_mode):
-        raise OpenError("it is a link")
     if not stat.S_ISREG(found.st_mode):
-        raise OpenError("it is no regular file")
+        raise OpenError("it is a link" if stat.S_ISLNK(found.st_mode) else "it is no regular file")
     if found.st_size > most:
         raise OpenError(f"it has more than {most:,} bytes")
 
 
-def read_all(file: int, most: int) -> bytes:
-    """Reads the rest of the file with this descriptor; raises OpenError if it has more than `most` bytes, and OSError."""
-    parts: List[bytes] = []
-    left = most + 1
-    while left > 0:
-        part = os.read(file, min(READ_AT_A_TIME, left))
-        if not part:
-            return b"".join(parts)
-        parts.append(part)
-        left -= len(part)
+def _parts(file: int, most: int) -> Iterator[bytes]:
+    """Yields the bytes of an open file in parts, and closes it; raises OpenError as `_check` does, also if it grows."""
+    try:
+        _check(os.fstat(file), most)
+        left = most + 1
+        while left > 0:
+            part = os.read(file, min(READ_AT_A_TIME, left))
+            if not part:
+                return
+            yield part
+            left -= len(part)
+    finally:
+        os.close(file)
     raise OpenError(f"it has more than {most:,} bytes")
 
 
@@ -250,14 +242,11 @@ def _replace(folder: int, name: str, data: bytes, was: Optional[bytes]) -> List[
     beside = f".relint-{os.getpid()}-{os.urandom(6).hex()}"
     file = os.open(beside, OWN_FILE, 0o666 if old is None else 0o600, dir_fd=folder)
     try:
-        try:
+        with open(file, "wb") as opened:
             lost = [] if old is None else _keep(file, old)
-            left = memoryview(data)
-            while left:
-                left = left[os.write(file, left):]
+            opened.write(data)
+            opened.flush()
             os.fsync(file)
-        finally:
-            os.close(file)
         if was is not None:
             _compare(folder, name, was)
         os.rename(beside, name, src_dir_fd=folder, dst_dir_fd=folder)
@@ -305,32 +294,12 @@ def _compare(folder: int, name: str, was: bytes) -> None:
         raise WriteError("it changed meanwhile")
 
 
-class Scratch:
-    """A private folder for files, to be used in a `with` statement, which gives its path and takes it away at the end."""
-
-    def __init__(self) -> None:
-        """Takes nothing."""
-        self.path = ""
-
-    def __enter__(self) -> str:
-        """Makes the folder, and returns its path. Raises OSError if it can't be made."""
-        # (tempfile takes longer to import than a small run may take)
-        places = (os.environ.get("TMPDIR", ""), "/tmp", "/var/tmp", os.getcwd())
-        place = next(it for it in places if os.path.isabs(it) and os.path.isdir(it))
-        made = os.path.join(os.path.realpath(place), f"relint-{os.urandom(12).hex()}")
-        os.mkdir(made, 0o700)
-        self.path = made
-        return made
-
-    def __exit__(self, *_: object) -> None:
-        """Takes the folder away, with all that is in it; no link is followed."""
-        for folder, folders, files in os.walk(self.path, topdown=False):
-            for it in files:
-                os.unlink(os.path.join(folder, it))
-            for it in folders:
-                path = os.path.join(folder, it)
-                (os.unlink if os.path.islink(path) else os.rmdir)(path)
-        os.rmdir(self.path)
+@contextmanager
+def Scratch() -> Iterator[str]:
+    """Gives the path of a private folder for files, and takes it away at the end. Raises OSError if it can't be made."""
+    # (most runs need none, and do without the time that tempfile takes to import)
+    with importlib.import_module("tempfile").TemporaryDirectory(prefix="relint-") as made:
+        yield os.path.realpath(made)
 
 
 # Showing.
@@ -349,10 +318,7 @@ def _escape(letter: str) -> str:
 
 
 def escaped(text: str, but: str = "") -> str:
-    """Returns a text in which the characters that `is_seen` denies, except those in `but`, are written as escapes of Python.
-
-    A backslash stays as it is.
-    """
+    """Returns a text with escapes of Python for what `is_seen` denies, except characters in `but`; a backslash stays."""
     if text.isascii() and text.isprintable():
         return text
     return "".join(it if is_seen(it) or it in but else _escape(it) for it in text)
@@ -399,9 +365,7 @@ def write(text: Union[str, bytes]) -> None:
 
 def _unwritten(error: Exception) -> Unwritten:
     """Returns the Unwritten for an error of writing, and leads standard output to the null device from now on."""
-    try:
+    with suppress(OSError, ValueError, AttributeError):
         # (so that Python's own flush at the end says nothing)
         os.dup2(os.open(os.devnull, os.O_WRONLY), sys.stdout.fileno())
-    except (OSError, ValueError, AttributeError):
-        pass
     return Unwritten("" if isinstance(error, BrokenPipeError) else reason(error))

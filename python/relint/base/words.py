@@ -5,6 +5,7 @@ import importlib
 import os
 import re
 import shlex
+from functools import lru_cache
 from typing import Dict, List, Optional, Sequence, Tuple
 
 from .model import ELSEWHERE, SEEN, Family, Finding, Offer, Text, Use, Verdict
@@ -51,8 +52,6 @@ CAUSES: Dict[str, str] = {
     "not-plain": "neither a file nor a folder, as a symbolic link: name what it points to",
     "time": "it wasn't judged in time",
 }
-# Names of causes that only reports of older versions have.
-OLDER = ("word-boundary", "multiline-anchor")
 LIMITS = {
     "size": "the pattern is too large",
     "letters": "the pattern tells too many kinds of characters apart",
@@ -162,16 +161,15 @@ def danger(finding: Finding, steps_a_second: Optional[int] = None) -> str:
     time grows.
     """
     verdict, growth, seen = finding.verdict, finding.growth, finding.seen
-    pattern: Text = finding.site.pattern if finding.site else ""
     act = "search" if finding.mode == "search" else "match"
     word = class_word(verdict) if verdict is not None else "slow"
     if seen is not None:
-        return (f"{word}, seen to hang: a text of {_unit(seen.length, pattern)} keeps this {act} busy for over "
+        return (f"{word}, seen to hang: a text of {_unit(seen.length, finding.pattern)} keeps this {act} busy for over "
                 f"{counted(round(seen.seconds), 'second')} on {visible(seen.python)}")
     if growth is None:
         return f"{word}: {growth_words(verdict)}" if verdict is not None else word
     time = seconds_words(growth.steps / (steps_a_second or STEPS_A_SECOND))
-    return f"{word}: a text of {_unit(growth.length, pattern)} keeps this {act} busy for {time}"
+    return f"{word}: a text of {_unit(growth.length, finding.pattern)} keeps this {act} busy for {time}"
 
 
 def outcome(finding: Finding) -> str:
@@ -219,10 +217,7 @@ def _escaped(code: int, is_bytes: bool) -> str:
 
 
 def quoted(text: Text) -> str:
-    """Returns a Python literal for a text or bytes, in ASCII on one line. It is raw if it has a backslash and needs no escape.
-
-    A build server takes no part of it for a command.
-    """
+    """Returns a literal of Python in ASCII, raw if it needs no escape; a build server takes no part of it for a command."""
     is_bytes = isinstance(text, bytes)
     found = [it if isinstance(it, int) else ord(it) for it in text]
     mark = "b" if is_bytes else ""
@@ -238,17 +233,12 @@ def flag_letters(flags: Optional[int]) -> str:
     return "".join(it for it in sorted(FLAGS) if (flags or 0) & FLAGS[it]).lower()
 
 
-def _root(text: Text) -> Text:
-    """The shortest text of which a text is copies."""
-    size = (text + text).find(text, 1)  # type: ignore[operator,arg-type]
-    return text[:size] if size > 0 else text
-
-
 def text_code(family: Family, k: int) -> str:
     """Returns a short Python expression for text k of a family, such as `"0" * 29 + " "`."""
     parts: List[Tuple[Text, int]] = [(family.heads[0], 1)]
     for pump, head in zip(family.pumps, family.heads[1:]):
-        root = _root(pump)
+        # (the shortest text of which the pump is copies)
+        root = pump[:(pump + pump).find(pump, 1)] if pump else pump  # type: ignore[operator,arg-type]
         count = k * (len(pump) // len(root) if root else 0)
         before, times = parts.pop()
         while root and times == 1 and before.endswith(root):  # type: ignore[arg-type]
@@ -310,6 +300,7 @@ def _page(name: str) -> Optional[str]:
         return None
 
 
+@lru_cache(maxsize=None)
 def _section(code: str) -> Tuple[str, str]:
     """The heading and the text of the section about a rule in the page of rules; both "" if there is none."""
     number = int(code[3:]) if re.fullmatch("RLT[0-9]{3}", code) else 0

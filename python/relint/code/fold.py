@@ -8,6 +8,7 @@ from __future__ import annotations
 
 import ast
 import os
+import string
 import sys
 from collections import ChainMap
 from dataclasses import replace
@@ -27,11 +28,17 @@ from .writes import (
 
 MOST_STEPS, DEEPEST, MOST_LOOPS, MOST_VALUES = 200_000, 60, 20, 64
 TOO_MANY = f"loop over more than {MOST_VALUES} values"
+# Why the value of what `re.compile` gives isn't known: it is no text.
+COMPILED = "compiled pattern"
+# Constants of the module `string`.
+CHARACTERS = ("ascii_letters", "ascii_lowercase", "ascii_uppercase", "digits", "hexdigits", "octdigits", "punctuation",
+              "printable", "whitespace")
 ENUMS = frozenset(("Enum", "StrEnum", "IntEnum"))
 # Bases from outside that set no attributes of their own under other names than theirs, and decorators that return the class.
 PLAIN_BASES = frozenset((
-    "abc.ABC", "ast.NodeVisitor", "ast.NodeTransformer", "threading.Thread", "typing.Generic", "typing.Protocol",
-    "unittest.TestCase", "unittest.case.TestCase",
+    "abc.ABC", "ast.NodeVisitor", "ast.NodeTransformer", "click.ParamType", "markdown.blockprocessors.BlockProcessor",
+    "markdown.postprocessors.Postprocessor", "markdown.preprocessors.Preprocessor", "markdown.treeprocessors.Treeprocessor",
+    "threading.Thread", "typing.Generic", "typing.Protocol", "unittest.TestCase", "unittest.case.TestCase",
 ))
 PLAIN_DECORATORS = frozenset(("total_ordering", "dataclass", "final", "runtime_checkable", "unique"))
 # What the evaluation of an expression may raise: the source may be hostile, as in `sorted(["a", b"b"])` or `"" * 2**64`.
@@ -426,10 +433,12 @@ class Folder:
     def name(self, node: ast.Name, unit: Unit) -> Known:
         """Folds a name."""
         home, nodes = unit.scopes.inside[node].lookup(node.id)
+        if len(nodes) > MOST_VALUES:
+            raise NotKnown("bound more than once")
         found = [it for it in (bound(one, unit.scopes) for one in nodes) if it.kind != "declared"]
         if home is None or not found:
             return self._from_star(node.id, unit)
-        one = self._of_branches(found, home, unit, node) if len(found) > 1 else found[0]
+        one = found[0] if len(found) == 1 else _in_line(found, home, unit, node) or self._of_branches(found, home, unit, node)
         if home.kind == "class" and (one.line >= node.lineno or unit.scopes.parents.get(one.above) is not home.node):
             raise NotKnown("bound later or in a branch")
         if home.kind == "module":
@@ -544,6 +553,8 @@ class Folder:
             self._check_kept(value, name, home, unit)
             need = [Need("name", unit.path, name, is_list=value.can_change())] if home.kind == "module" else []
             return replace(value, needs=value.needs.union(need))
+        if found.kind == "changed" and isinstance(found.above, ast.AugAssign):
+            return self._held(self._grown(found, unit), name, found, home, unit)
         if found.kind != "value" or found.value is None:
             raise NotKnown(found.kind)
         value = self.fold(found.value, unit)
@@ -551,6 +562,38 @@ class Folder:
             raise NotKnown("changed in place")
         self._check_kept(value, name, home, unit)
         return self._held(value, name, found, home, unit)
+
+    def _grown(self, found: Bound, unit: Unit) -> Known:
+        """The text or number that a statement such as `name += ..` gives."""
+        apply = OPERATORS.get(type(found.above.op).__name__)
+        value = apply(self.fold(found.node, unit), self.fold(found.above.value, unit)) if apply else Known(None)
+        if not isinstance(value.value, (str, bytes, int)):
+            raise NotKnown("changed in place" if apply else "operator")
+        return value
+
+    def display(self, node: ast.expr, unit: Unit, takes: Callable[[ast.AST], bool]) -> Tuple[ast.expr, List[Known]]:
+        """Returns the list, tuple or dictionary that a name holds, as it is written, and the name as what holds a value.
+
+        Nothing in the file may change it: all loads of the name are arguments for which `takes` says so. Otherwise it returns
+        what it got.
+        """
+        home, nodes = unit.scopes.inside[node].lookup(node.id) if isinstance(node, ast.Name) else (None, [])
+        found = bound(nodes[0], unit.scopes) if len(nodes) == 1 else None
+        if home is None or found is None or not isinstance(node, ast.Name) or found.value is None or found.kind != "value":
+            return node, []
+        loads: List[ast.AST] = [*unit.scopes.loads(home, node.id)]
+        loads += unit.scopes.attributes.get(node.id, ()) if home.kind == "module" else []
+        is_alone = isinstance(found.above, ast.Assign) and len(found.above.targets) == 1 and (
+            unit.scopes.parents.get(found.above) is home.node)
+        if home.kind == "class" or not is_alone or not all(map(takes, loads)) or can_give(node.id, unit.scopes):
+            return node, []
+        try:
+            if home.kind == "module":
+                self._check_module(node.id, found, unit, node)
+        except NotKnown:
+            return node, []
+        need = [Need("name", unit.path, node.id, is_list=True)] if home.kind == "module" else []
+        return found.value, [Known(None).with_name(Holder(node.id, unit.path, found.line), *need)]
 
     def _from_import(self, found: Bound, unit: Unit) -> Known:
         """The value of a name that an import binds: a flag, or a name of another source."""
@@ -560,6 +603,8 @@ class Folder:
         if module in ("re", "regex") and found.node.name in FLAGS:
             return Known(FLAGS[found.node.name])
         path = self.sources.find(module, unit.path)
+        if path is None and module == "string" and found.node.name in CHARACTERS:
+            return Known(getattr(string, found.node.name))
         if path is None:
             raise NotKnown("import from outside")
         return self._member(path, found.node.name)
@@ -606,11 +651,13 @@ class Folder:
         place = self._place_of(node, unit)
         if place is not None:
             return self._member(*place)
+        if front == "string" and last in CHARACTERS:
+            return Known(getattr(string, last))
         if node.attr == "value" and isinstance(node.value, ast.Attribute):
-            found = self._class_of(node.value.value, unit)
+            found = self.class_of(node.value.value, unit)
             if found is not None:
                 return self._of_enum(node.value.attr, *found[0])
-        found = self._class_of(node.value, unit)
+        found = self.class_of(node.value, unit)
         if found is None:
             raise NotKnown("attribute")
         is_private = found[1] and node.attr.startswith("__") and not node.attr.endswith("__")
@@ -642,7 +689,7 @@ class Folder:
         mine = [it for it in its if it.owner is node]
         if not mine:
             for base in bases:
-                above = self._class_of(base, unit)
+                above = self.class_of(base, unit)
                 value = self._of_class(name, above[0], is_own, depth + 1) if above else None
                 if value is not None:
                     if any(above is None or it.owner is not above[0][0] for it in its):
@@ -689,7 +736,7 @@ class Folder:
             raise NotKnown("class with attributes of its own")
         for base in node.bases:
             if not self._is_plain_base(base, unit):
-                above = self._class_of(base, unit)
+                above = self.class_of(base, unit)
                 if above is None or above[0][0] is node or can_set_attributes(above[0][1].scopes):
                     raise NotKnown("attribute of a base class")
                 self._check_class(*above[0], depth + 1)
@@ -702,7 +749,7 @@ class Folder:
             return not _stars(unit.scopes) and (node.id == "object" or node.id.endswith(("Error", "Exception")))
         return self.qualified(node, unit) in PLAIN_BASES
 
-    def _class_of(self, node: ast.AST, unit: Unit) -> Optional[Tuple[Class, bool]]:
+    def class_of(self, node: ast.AST, unit: Unit) -> Optional[Tuple[Class, bool]]:
         """The class that an expression names, and whether that is `self`, `cls`, or their `__class__`; None if it is none."""
         own = self_class(node, unit.scopes)
         if own is not None:
@@ -766,6 +813,10 @@ class Folder:
             return self._escape(node.args[0], unit)
         if full == "textwrap.dedent" and is_single:
             return texts.dedented(self.fold(node.args[0], unit))
+        if full == "fnmatch.translate" and is_single:
+            return texts.translated(self.fold(node.args[0], unit))
+        if full in ("re.compile", "regex.compile"):
+            raise NotKnown(COMPILED)
         if isinstance(node.func, ast.Name) and not unit.scopes.meant(node.func) and not _stars(unit.scopes):
             return self._builtin(node.func.id, node, unit)
         if isinstance(node.func, ast.Attribute) and full is None:
@@ -782,7 +833,10 @@ class Folder:
             return texts.stand_in(f"re.escape({_shortened(node)})")[0]
 
     def _builtin(self, name: str, node: ast.Call, unit: Unit) -> Known:
-        """The value of a call of range, zip, enumerate, list, tuple, reversed, sorted or str."""
+        """The value of a call of range, zip, enumerate, list, tuple, reversed, sorted, str, or dict with keywords."""
+        if name == "dict" and not node.args and all(it.arg is not None for it in node.keywords):
+            table: Dict[Any, Known] = {it.arg: self.fold(it.value, unit) for it in node.keywords}
+            return made(Table(table), table.values())
         if node.keywords or any(isinstance(it, ast.Starred) for it in node.args):
             raise NotKnown("call")
         if name == "range":
@@ -892,6 +946,30 @@ class Folder:
         """Folds a list comprehension with one loop over known items and no condition."""
         items = self._comprehended(node, unit)
         return made(Items(tuple(items), True), items)
+
+
+def _in_line(found: Sequence[Bound], home: Scope, unit: Unit, load: ast.Name) -> Optional[Bound]:
+    """The last binding of a name before a load in its scope, if all bindings are statements of a block that the load is in."""
+    parents = unit.scopes.parents
+    top: Any = parents.get(found[0].above)
+    blocks = {(parents.get(it.above), _block(it.above, parents.get(it.above))) for it in found}
+    at: Any = load
+    while at is not None and parents.get(at) is not top:
+        at = parents.get(at)
+    is_plain = all(it.kind in ("value", "changed") for it in found) and unit.scopes.inside[load] is home
+    if not is_plain or len(blocks) != 1 or at is None or (top, _block(at, top) or None) not in blocks:
+        return None
+    before = [it for it in found if _span(it.above) < _span(at)]
+    return max(before, key=lambda it: _span(it.above)) if before else None
+
+
+def _block(node: Any, above: Any) -> str:
+    """The field of a statement that holds another one in a list; "" if none does."""
+    for name in ("body", "orelse", "finalbody"):
+        its = getattr(above, name, None)
+        if isinstance(its, list) and isinstance(node, ast.stmt) and its and _span(its[0]) <= _span(node) <= _span(its[-1]):
+            return name
+    return ""
 
 
 def _stars(names: Names) -> List[ast.ImportFrom]:

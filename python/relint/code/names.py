@@ -223,7 +223,7 @@ class Names:
         """Returns the scope in which a node of the tree is read."""
         while node not in self.inside:
             above = self.parents.get(node)
-            if above is None:
+            if above is None or above is self.tree:
                 return self.module
             if above in self.scopes and any(it is node and inside for it, _, inside in parts(above)):
                 return self.scopes[above]

@@ -15,37 +15,60 @@ from typing import Any, Callable, Dict, Iterator, List, Mapping, NamedTuple, Opt
 
 from ..base.model import CALLS, MODES, Holder, Place, Site, Text
 from ..options import OptionsError, read_toml
-from . import texts
+from . import routes, texts
 from .elsewhere import LETTERS, WORDS, import_statements
-from .fold import Bound, Folder, Varies, bound
+from .fold import COMPILED, Bound, Class, Folder, Varies, bound
 from .names import Scope
 from .source import EVERY_FLAG, FLAGS, FLAGS_AT, LINE_END, Unit, is_test
 from .texts import Known, Need, NotKnown
-from .writes import last_name, self_class
+from .writes import can_set_names, is_alone, is_set, last_name, self_class
 
 TABLE = Path(__file__).with_name("takers.toml")
-SHAPES = ("text", "list", "pairs", "tokens", "rules")
+SHAPES = ("text", "list", "pairs", "keys", "tokens", "rules", "schema", *routes.FORMS)
 # The type of each key's value. The items of a list are texts.
-KEYS: Mapping[str, type] = {
-    "call": list, "method": str, "class": list, "attribute": str, "shape": str, "pattern": int, "keyword": list, "flags": int,
-    "flags-keyword": str, "always": list, "mode": str, "needs": str, "when": dict, "unless": dict, "note": str, "engine": str,
-    "is-list": bool, "least": int,
+KEYS: Mapping[str, Any] = {
+    "call": list, "method": (str, list), "class": list, "attribute": str, "shape": str, "pattern": int, "keyword": list,
+    "flags": int, "flags-keyword": str, "always": list, "mode": str, "needs": str, "when": dict, "unless": dict, "note": str,
+    "engine": str, "is-list": bool, "least": int, "beside": list, "around": str,
 }
-WORDS_OF_KINDS = {list: "a list of texts", str: "a text", int: "a number", dict: "a table", bool: "true or false"}
+WORDS_OF_KINDS: Mapping[Any, str] = {
+    (str, list): "a text or a list of texts", list: "a list of texts", str: "a text", int: "a number", dict: "a table",
+    bool: "true or false",
+}
 # A call of `re` whose first argument isn't a literal, a function of `re` that isn't called at once, and imports of these.
 # (without a test of what stands before, the search is quick)
 OF_RE = re.compile(rb"re\s*\.\s*(?:" + "|".join(CALLS).encode() + rb")\b(?!\s*\(\s*(?:#[^\n]*\s*)*[rRbBuU]{0,2}[\"'])")
 IMPORTS_RE = re.compile(rb"\bfrom\s+(?:re|regex)\s+import\b|\bimport\b[^\n]*\b(?:re\s+as|regex)\b")
 # Names with the prefix of a rule that PLY doesn't read as rules.
 NO_RULES = ("t_ignore", "t_error", "t_eof", "t_literals")
-
+# Keys of a JSON schema whose value has schemas by names, and those whose value is no schema.
+SCHEMAS = ("properties", "patternProperties", "definitions", "$defs", "dependentSchemas", "dependencies")
+NO_SCHEMAS = ("default", "enum", "const", "examples")
+# Decorators that return a function with the same results.
+SAME_RESULT = ("functools.lru_cache", "functools.cache")
+DISPLAYS = (ast.List, ast.Tuple, ast.Dict)
+# The shapes that hold patterns; "schemas" is that of names with schemas. So much of them is looked at in a file, over so many
+# names.
+HOLDING = ("list", "pairs", "keys", "tokens", "schema", "schemas")
+MOST_VISITS, DEEPEST = 100_000, 8
 
 # A pattern, its flags, and what both were made from.
 Values = Tuple[Known, int, List[Known]]
+# The expression of a pattern, and the names that lead to it.
+Held = Tuple[ast.expr, Tuple[Known, ...]]
 
 
 class TakersError(Exception):
     """Raised if a row of the table is wrong; the message says which and why."""
+
+
+# A command for a whole cell of a notebook, and those whose cells hold another language. A line that times a statement, and one
+# that asks for help on a name.
+CELL_MAGIC, TIMED = re.compile(r"\s*%%(\w*)"), re.compile(r"%%?(?:time|timeit|prun|memit)[ \t]+(?=[^\s-])")
+HELP = re.compile(r"%{0,2}[\w.*]+\?{1,2}\s*\Z")
+OTHER_LANGUAGES = frozenset((
+    "bash", "bigquery", "cmd", "html", "javascript", "js", "latex", "markdown", "perl", "r", "ruby", "sh", "sql", "svg",
+))
 
 
 class NotebookError(Exception):
@@ -74,6 +97,8 @@ class Taker:
     note: str = ""
     is_list: bool = False
     least: int = 0
+    beside: Tuple[str, ...] = ()
+    around: str = ""
 
 
 @dataclass(frozen=True)
@@ -98,8 +123,9 @@ class Found:
 # ---- the table
 
 def takers_of(rows: Sequence[Any]) -> List[Taker]:
-    """Returns the takers that rows of TOML describe. Raises TakersError."""
-    return [taker_of(row, f"row {number} of takers") for number, row in enumerate(rows, 1)]
+    """Returns the takers that rows of TOML describe, one for each method of a row. Raises TakersError."""
+    return [taker_of(it, f"row {number} of takers") for number, row in enumerate(rows, 1)
+            for it in ([{**row, "method": one} for one in row["method"]] if isinstance(row.get("method"), list) else [row])]
 
 
 def own_rows() -> List[Any]:
@@ -130,7 +156,7 @@ def taker_of(row: Any, place: str) -> Taker:
         if kind is None:
             raise TakersError(f"{place} has a key that isn't known: {key}")
         is_right = isinstance(value, kind) and not (kind is int and isinstance(value, bool))
-        if not is_right or kind is list and not all(isinstance(it, str) for it in value):
+        if not is_right or isinstance(value, list) and not all(isinstance(it, str) for it in value):
             raise TakersError(f"{place}: {key} has to be {WORDS_OF_KINDS[kind]}")
     if row.get("mode") not in MODES:
         raise TakersError(f"{place}: mode has to be one of {', '.join(MODES)}")
@@ -144,13 +170,14 @@ def taker_of(row: Any, place: str) -> Taker:
     if unknown:
         raise TakersError(f"{place}: {unknown[0]} is no flag of re")
     calls = tuple(row.get("call", ()))
-    name = calls[0] if calls else row.get("method") or row.get("attribute")
+    named = row.get("method") or row.get("attribute")
+    name = calls[0] if calls else named if named != "*" else row["keyword"][0]
     return Taker(
-        str(name), row["mode"], calls, row.get("method", ""), tuple(row.get("class", ())), row.get("attribute", ""),
+        str(name), row["mode"], calls, str(row.get("method", "")), tuple(row.get("class", ())), row.get("attribute", ""),
         row.get("shape", "text"), row.get("pattern", -1), tuple(row.get("keyword", ())), row.get("flags", -1),
         row.get("flags-keyword", ""), sum({FLAGS[it] for it in row.get("always", [])}), row.get("needs", ""),
         tuple(sorted(row.get("when", {}).items())), tuple(sorted(row.get("unless", {}).items())), row.get("note", ""),
-        row.get("is-list", False), row.get("least", 0),
+        row.get("is-list", False), row.get("least", 0), tuple(row.get("beside", ())), row.get("around", ""),
     )
 
 
@@ -168,11 +195,14 @@ class Takers:
             for name in row.calls:
                 self.calls.setdefault(name, []).append(row)
                 self._word(name.partition(".")[0], name.rpartition(".")[2])
-            if row.method:
-                self.methods.setdefault(row.method.rpartition(".")[2], []).append(row)
-                self._word(row.needs, row.method.rpartition(".")[2])
+            name = row.method.rpartition(".")[2]
+            if name:
+                self.methods.setdefault(name, []).append(row)
+                # (a row for all methods needs its argument's name; what is a function of `re` is found by that)
+                for it in row.keywords if name == "*" else [name] if row.needs != "re" else []:
+                    self._word(row.needs, it.strip("*"))
             if row.attribute:
-                self._word(row.needs, row.attribute.partition("*")[0])
+                self._word(row.needs, row.beside[0] if row.beside else row.attribute.partition("*")[0])
 
     def _word(self, module: str, word: str) -> None:
         """Notes a word without which a row fits nothing in files that import a module; in all files for ""."""
@@ -180,8 +210,6 @@ class Takers:
 
     def may_take(self, data: bytes) -> bool:
         """Returns whether the bytes of a source show that something in it may take a pattern that the program doesn't read."""
-        if b"import" not in data:
-            return False
         statements = b"\n".join(import_statements(data))
         words = set(WORDS.findall(statements))
         if IMPORTS_RE.search(statements):
@@ -199,7 +227,9 @@ def places_in(unit: Unit, takers: Takers, folder: Folder) -> List[Found]:
     one = _Finder(unit, takers, folder)
     found = [it for call in unit.scopes.calls for it in one.of_call(call)]
     found += [it for row in takers.rows if row.attribute and one.imports(row.needs) for it in one.of_attribute(row)]
-    return sorted(found, key=lambda it: it.place)
+    found += [it for row in takers.methods.get("*", ()) if any(it.strip("*") in unit.text for it in row.keywords)
+              for call in unit.scopes.calls for it in one.of_row(row, call)]
+    return sorted(dict.fromkeys(found), key=lambda it: it.place)
 
 
 class _Finder:
@@ -209,6 +239,8 @@ class _Finder:
         """Takes the source, the table, and what folds expressions."""
         self.unit, self.takers, self.folder = unit, takers, folder
         self.in_tests = is_test(unit.path)
+        self._visits = 0
+        self._given: Dict[Tuple[Scope, str], bool] = {}
         self.imported = {part for it in unit.scopes.imports for part in (
             [(it.module or "").partition(".")[0]] if isinstance(it, ast.ImportFrom) else [
                 one.name.partition(".")[0] for one in it.names])}
@@ -220,15 +252,20 @@ class _Finder:
     def of_call(self, call: ast.Call) -> Iterator[Found]:
         """Yields the patterns of a call of `re` or of a taker."""
         name = call.func.attr if isinstance(call.func, ast.Attribute) else ""
-        for row in self.takers.methods.get(name, ()):
-            if self.imports(row.needs) and self._is_method(call.func, row.method) and self._fits(row, call):
-                yield from self.of_row(row, call)
-                return
+        rows = [it for it in self.takers.methods.get(name, ())
+                if self.imports(it.needs) and self._is_method(call.func, it.method) and self._fits(it, call)]
+        longest = max((len(it.method) for it in rows), default=0)
+        for row in rows:
+            # ("str.replace" is another method than "replace")
+            yield from self.of_row(row, call) if len(row.method) == longest else ()
+        if rows:
+            return
         full = self.folder.qualified(call.func, self.unit) if self._may_take(call.func) else None
         if full is None:
             if isinstance(call.func, ast.Name) and call.func.id == "map" and len(call.args) == 2:
                 yield from self.of_map(call)
-            return
+                return
+            full, call = self._as_above(call)
         front, _, last = full.rpartition(".")
         if front == "re" and last in FLAGS_AT:
             yield from self.of_re(last, call)
@@ -237,7 +274,45 @@ class _Finder:
             yield from self.of_re(self._of_re(call.args[0]), inner) if inner.args or inner.keywords else ()
         for row in self.takers.calls.get(full, ()):
             if self._fits(row, call):
-                yield from self.of_row(row, call)
+                yield from self.of_row(replace(row, name=full), call)
+
+    def _as_above(self, call: ast.Call) -> Tuple[str, ast.Call]:
+        """The full name of what a call of a class of the file, of `__init__`, or of a partial function calls, and how."""
+        function, names = call.func, self.unit.scopes
+        if isinstance(function, ast.Attribute):
+            if function.attr != "__init__":
+                return "", call
+            scope = names.inside[call].parent
+            if not isinstance(function.value, ast.Call):
+                return self.folder.qualified(function.value, self.unit) or "", ast.Call(function, call.args[1:], call.keywords)
+            is_super = last_name(function.value) == "super" and scope is not None and (
+                not function.value.args or last_name(function.value.args[0]) == getattr(scope.node, "name", ""))
+            return self._only_base(scope.node) if is_super and scope is not None else "", call
+        nodes = names.meant(function) if isinstance(function, ast.Name) else []
+        if len(nodes) == 1 and isinstance(nodes[0], ast.ClassDef):
+            return self._only_base(nodes[0], True) if nodes[0].bases else "", call
+        value = getattr(names.parents.get(nodes[0]), "value", None) if len(nodes) == 1 else None
+        if isinstance(value, ast.Call) and value is bound(nodes[0], names).value and len(value.args) == 1 and (
+                self.folder.qualified(value.func, self.unit) == "functools.partial" and "pattern" not in dict(_named(value))):
+            given = dict([*_named(value), *_named(call)])
+            keywords = [ast.keyword(name, it) for name, it in given.items()]
+            return self.folder.qualified(value.args[0], self.unit) or "", ast.Call(value.args[0], call.args, keywords)
+        return "", call
+
+    def _only_base(self, node: ast.AST, is_made: bool = False, depth: int = 0) -> str:
+        """The full name of the only base of a class, over classes of the file that don't say how they are made; or "".
+
+        With `is_made`, the class itself mustn't say that.
+        """
+        if not isinstance(node, ast.ClassDef) or len(node.bases) != 1 or node.keywords or depth > 8:
+            return ""
+        base, names = node.bases[0], self.unit.scopes
+        if is_made and (node.decorator_list or {"__init__", "__new__"} & names.scopes[node].bindings.keys()):
+            return ""
+        above = names.meant(base) if isinstance(base, ast.Name) else []
+        if len(above) == 1 and isinstance(above[0], ast.ClassDef):
+            return self._only_base(above[0], True, depth + 1)
+        return self.folder.qualified(base, self.unit) or ""
 
     def _may_take(self, node: ast.AST) -> bool:
         """Whether a called expression may name a function that takes a pattern, by its last name or its bindings here."""
@@ -260,7 +335,7 @@ class _Finder:
         node = call.args[1]
         items = node.elts if isinstance(node, (ast.List, ast.Tuple)) else None
         if items is not None:
-            return [one for it in items for one in self.found(it, name, None)]
+            return [replace(one, is_literal=False) for it in items for one in self.found(it, name, None)]
         try:
             values = self.folder.items(node, self.unit)
         except NotKnown as error:
@@ -278,11 +353,12 @@ class _Finder:
 
     def _fits(self, row: Taker, call: ast.Call) -> bool:
         """Whether a call has all arguments in the row's `when`, with their values, and none in its `unless`."""
-        given = {it.arg: it.value for it in call.keywords if it.arg}
+        given = dict(_named(call))
         for name, value in row.unless:
             if name in given and self._constant(given[name]) in (value, None):
                 return False
-        return all(name in given and self._constant(given[name]) == value for name, value in row.when)
+        return all(name in given and value in (self._constant(given[name]), self.folder.qualified(given[name], self.unit))
+                   for name, value in row.when)
 
     def _constant(self, node: ast.AST) -> Any:
         """The value of an expression; None if it isn't known, or is None."""
@@ -296,35 +372,76 @@ class _Finder:
         node = _argument(call, 0, ("pattern",))
         if node is None:
             return [replace(self._empty(call, name, None), why="no pattern argument")] if hasattr(call, "lineno") else []
-        if self._is_compiled(node):
-            return []
         return self.found(node, name, _argument(call, FLAGS_AT[name], ("flags",)))
-
-    def _is_compiled(self, node: ast.AST) -> bool:
-        """Whether an expression names what `re.compile` gives."""
-        nodes = self.unit.scopes.meant(node) if isinstance(node, ast.Name) else []
-        values = [bound(it, self.unit.scopes).value for it in nodes]
-        return bool(values) and all(isinstance(it, ast.Call) and self._of_re(it.func) == "compile" for it in values)
 
     def of_row(self, row: Taker, call: ast.Call) -> Iterator[Found]:
         """Yields the patterns of a call of a taker; nothing if it has no such argument, or None for it."""
-        node = _argument(call, row.pattern, row.keywords)
-        if node is None:
-            return
+        nodes = [it for name, it in _named(call) if any(fnmatch.fnmatchcase(name, one) for one in row.keywords)]
         flags = _argument(call, row.flags, (row.flags_keyword,))
-        its = _in_shape(row.shape, node) if row.shape != "text" else (
-            node.elts if row.is_list and isinstance(node, (ast.List, ast.Tuple)) else [node])
-        for it in its:
-            if not isinstance(it, ast.Constant) or it.value is not None:
-                found = self.found(it, row.mode, flags, row)
-                yield from (one for one in found if one.site is None and one.why != "not a text"
-                            or one.site is not None and len(one.site.pattern) >= row.least)
+        for node in nodes or [it for it in [_argument(call, row.pattern, ())] if it is not None]:
+            shape = "list" if row.is_list and isinstance(node, (ast.List, ast.Tuple)) else row.shape
+            for it in self.in_shape(shape, node):
+                yield from self.of_held(it, flags, row)
+
+    def of_held(self, held: Held, flags: Optional[ast.AST], row: Taker) -> Iterator[Found]:
+        """Yields what is known of an expression that is held as a pattern; nothing if it surely is none."""
+        node, through = held
+        if isinstance(node, ast.Constant) and node.value is None:
+            return
+        for it in self.found(node, row.mode, flags, row):
+            if it.site is None:
+                yield from [it] if it.why != "not a text" else []
+            elif len(it.site.pattern) >= row.least:
+                site = replace(it.site, holders=tuple(dict.fromkeys(
+                    [*it.site.holders, *(one for known in through for one in known.holders)])))
+                needs = {*it.needs, *(need for known in through for need in known.needs)}
+                yield replace(it, site=site, needs=tuple(sorted(needs)))
+
+    def in_shape(self, shape: str, node: ast.expr) -> Iterator[Held]:
+        """Yields the expressions of the patterns in an expression of a shape."""
+        left: List[Tuple[str, ast.expr, Tuple[Known, ...]]] = [(shape, node, ())]
+        while left and self._visits < MOST_VISITS:
+            self._visits += 1
+            shape, node, through = left.pop()
+            if shape not in HOLDING:
+                yield node, through
+                continue
+            if not isinstance(node, DISPLAYS) and len(through) < DEEPEST:
+                node, known = self.folder.display(node, self.unit, self._takes)
+                through = (*through, *known)
+            if isinstance(node, ast.Dict):
+                left += [(one, it, through) for one, it in _in_table(shape, node)]
+            for it in node.elts if isinstance(node, (ast.List, ast.Tuple)) else []:
+                if shape == "list" or shape.startswith("schema"):
+                    left.append(("text" if shape == "list" else "schema", it, through))
+                elif isinstance(it, ast.Tuple) and len(it.elts) > 1:
+                    left.append(("text", it.elts[0], through))
+
+    def _takes(self, node: ast.AST, depth: int = 0) -> bool:
+        """Whether an expression is given to a taker only, which doesn't change it: at once, or in what a name holds."""
+        names = self.unit.scopes
+        above = names.parents.get(node)
+        while isinstance(above, DISPLAYS):
+            node, above = above, names.parents.get(above)
+        target = above.targets[0] if isinstance(above, ast.Assign) and len(above.targets) == 1 else None
+        if isinstance(target, ast.Name):
+            home = names.inside[target].home(target.id)
+            if (home, target.id) not in self._given:
+                self._given[home, target.id] = False
+                self._given[home, target.id] = depth < DEEPEST and home.kind != "class" and all(
+                    self._takes(it, depth + 1) for it in names.loads(home, target.id))
+            return self._given[home, target.id]
+        call = names.parents.get(above) if isinstance(above, ast.keyword) else above
+        if not isinstance(call, ast.Call) or call.func is node:
+            return False
+        full = self.folder.qualified(call.func, self.unit) or self._as_above(call)[0]
+        return full in self.takers.calls
 
     def found(self, node: ast.expr, call: str, flags: Optional[ast.AST], row: Optional[Taker] = None) -> List[Found]:
         """What is known of an expression that is given as a pattern; `flags` gives the flags."""
         def fold() -> Values:
             """The pattern, its flags, and what both were made from, at the present choices."""
-            known = self.folder.fold(node, self.unit)
+            known = _as_taken(self.folder.fold(node, self.unit), row)
             number, given = self._flags(flags, row)
             return known, number, [known, *given]
 
@@ -332,6 +449,8 @@ class _Finder:
             values = self.folder.each(fold, node, self.unit)
             return self._made(node, call, row, values)
         except NotKnown as error:
+            if error.why == COMPILED:
+                return []
             parts = [it for it in (node, flags) if it is not None]
             given = self.of_calls(parts, call, row, fold) if error.why in ("parameter", "flags: parameter") else []
             return given or [replace(self._empty(node, call, row), why=error.why)]
@@ -339,13 +458,14 @@ class _Finder:
     def of_calls(self, parts: Sequence[ast.AST], call: str, row: Optional[Taker], fold: Callable[[], Values]) -> List[Found]:
         """The patterns that the calls of a function around a place give it, and the defaults of the function's parameters."""
         names = self.unit.scopes
-        loads = [it for part in parts for it in ast.walk(part) if isinstance(it, ast.Name)]
+        loads = [it for part in parts for it in ast.walk(part) if isinstance(it, ast.Name) and self_class(it, names) is None]
         wanted = [one for it in loads for one in self._parameters(it, 0)]
         function: Any = names.parents.get(names.parents.get(wanted[0], wanted[0])) if wanted else None
         if function is None or any(names.parents.get(names.parents[it]) is not function for it in wanted):
             return []
         found: List[Found] = []
-        for site in [None, *self._calls_of(function)]:
+        calls, need = self._calls_of(function)
+        for site in [None, *calls]:
             nodes = {it: _argument_for(it, function, site) for it in dict.fromkeys(wanted)}
             first = next((it for it in nodes.values() if it is not None), None)
             if first is None or None in nodes.values():
@@ -362,8 +482,8 @@ class _Finder:
                 values = self.folder.each(with_arguments, first, self.unit)
                 mode = "search" if call == "compile" else call
                 its = self._made(first, mode, row, values)
-                found += [replace(it, is_literal=False, site=replace(it.site, notes=(*it.site.notes, note)))
-                          for it in its if it.site is not None]
+                found += [replace(it, is_literal=False, needs=tuple(sorted({*it.needs, *need})),
+                                  site=replace(it.site, notes=(*it.site.notes, note))) for it in its if it.site is not None]
             except NotKnown as error:
                 found += [replace(self._empty(first, call, row), why=error.why)] if site is not None else []
         return found
@@ -379,26 +499,51 @@ class _Finder:
         loads = [it for it in ast.walk(value) if isinstance(it, ast.Name)] if value is not None else []
         return [one for it in loads for one in self._parameters(it, depth + 1)]
 
-    def _calls_of(self, function: Any) -> List[ast.Call]:
-        """The calls of a function, or of a lambda that is bound to a name, in its file; none if its name is bound again."""
+    def _calls_of(self, function: Any) -> Tuple[List[ast.Call], List[Need]]:
+        """The calls of a function in its file, with what they need; none if something else may be called by its name.
+
+        That of a lambda is the name to which it is bound. A method is looked for only on `self`, which is given to it then.
+        """
         names = self.unit.scopes
-        home, name = names.inside[function], getattr(function, "name", "")
-        decorators: List[ast.expr] = getattr(function, "decorator_list", [])
-        above = names.parents.get(function)
+        home, name, above = names.inside[function], getattr(function, "name", ""), names.parents.get(function)
+        decorators = [it for it in getattr(function, "decorator_list", ()) if last_name(it) != "staticmethod"]
         if isinstance(function, ast.Lambda) and isinstance(above, ast.Assign) and isinstance(above.targets[0], ast.Name):
             name = above.targets[0].id
-        if home.kind == "class" or len(home.bindings.get(name, ())) != 1 or decorators:
-            return []
-        calls = [(it, names.parents.get(it)) for it in names.loads(home, name)]
-        return [call for it, call in calls if isinstance(call, ast.Call) and call.func is it]
+        is_other = any(self.folder.qualified(it.func if isinstance(it, ast.Call) else it, self.unit) not in SAME_RESULT
+                       for it in decorators)
+        is_module = home.kind == "module"
+        if is_other or len(home.bindings.get(name, ())) != 1 or is_module and (is_set(name, names) or can_set_names(names)):
+            return [], []
+        loads: List[Any] = [*names.loads(home, name)]
+        need = [Need("name", self.unit.path, name)] if is_module else []
+        is_given = False
+        if isinstance(home.node, ast.ClassDef):
+            loads = [it for it in names.attributes.get(name, ()) if self_class(it.value, names) is home.node]
+            if not is_alone(name, home.node, names):
+                return [], []
+            need = [Need("attribute", self.unit.path, name, home.node.name)]
+            is_given = len(decorators) == len(function.decorator_list)
+        calls = [(it, names.parents.get(it)) for it in loads]
+        return [ast.Call(it, [*([it.value] if is_given else []), *call.args], call.keywords) for it, call in calls
+                if isinstance(call, ast.Call) and call.func is it], need
 
     def _empty(self, node: ast.expr, call: str, row: Optional[Taker]) -> Found:
         """A place of which nothing else is known."""
         first = _first_literal(node)
-        is_literal = isinstance(node, ast.Constant) and isinstance(node.value, (str, bytes))
+        is_literal = isinstance(node, ast.Constant) and isinstance(node.value, (str, bytes)) and self._is_read(node)
         mode = row.mode if row else call if call in MODES else "" if call == "compile" else "search"
         end = self._place(node.end_lineno or node.lineno, node.end_col_offset or node.col_offset)
         return Found(self._place(first.lineno, first.col_offset), end, call, mode, is_literal=is_literal and row is None)
+
+    def _is_read(self, node: ast.AST) -> bool:
+        """Whether the program reads a literal itself: it is the first argument of a call whose function is imported."""
+        names = self.unit.scopes
+        above: Any = names.parents.get(node)
+        call: Any = names.parents.get(above) if isinstance(above, ast.keyword) else above
+        if not isinstance(call, ast.Call) or [*call.args, *call.keywords][:1] not in ([node], [above]):
+            return False
+        function = call.func.value if isinstance(call.func, ast.Attribute) else call.func
+        return isinstance(function, ast.Name) and all(isinstance(it, ast.alias) for it in names.meant(function))
 
     def _place(self, line: int, column: int) -> Place:
         """The place of a position of `ast`, whose columns count bytes from 0."""
@@ -447,10 +592,21 @@ class _Finder:
         """Yields the patterns that names hold in the bodies of classes with a base of the row; without bases, of all."""
         for scope in list(self.unit.scopes.scopes.values()):
             if isinstance(scope.node, ast.ClassDef):
-                if not row.classes or any(last_name(it) in row.classes for it in scope.node.bases):
+                is_plain = not row.beside or not scope.node.bases and all(it in scope.bindings for it in row.beside)
+                if is_plain if not row.classes else self._is_below((scope.node, self.unit), row.classes, 0):
                     yield from self._of_body(row, scope)
-            elif scope.kind == "module" and not row.classes:
+            elif scope.kind == "module" and not row.classes and not row.beside:
                 yield from self._of_body(row, scope)
+
+    def _is_below(self, found: Class, names: Sequence[str], depth: int) -> bool:
+        """Whether a class has a base with one of these names, or one of the sources that has."""
+        for base in found[0].bases:
+            if any(fnmatch.fnmatchcase(last_name(base), it) for it in names):
+                return True
+            above = self.folder.class_of(base, found[1]) if depth < 8 else None
+            if above is not None and self._is_below(above[0], names, depth + 1):
+                return True
+        return False
 
     def _of_body(self, row: Taker, scope: Scope) -> Iterator[Found]:
         """Yields the patterns that names of a scope hold, if they fit the row and are bound once."""
@@ -459,8 +615,10 @@ class _Finder:
                 continue
             given = scope.bindings.get(row.flags_keyword, [])
             flags = bound(given[0], self.unit.scopes).value if len(given) == 1 else None
-            for it in _held_by(row.shape, bound(nodes[0], self.unit.scopes)):
-                yield from (one for one in self.found(it, row.mode, flags, row) if one.why != "not a text")
+            held = bound(nodes[0], self.unit.scopes)
+            for it in _of_rule(held) if row.shape == "rules" and held.kind == "function" else [held.value]:
+                for one in self.in_shape(row.shape, it) if it is not None and held.kind in ("value", "function") else ():
+                    yield from self.of_held(one, flags, row)
         if scope.kind == "class" and row.shape == "text" and "*" not in row.attribute:
             for store in self.unit.scopes.attributes.get(row.attribute, ()):
                 above, owner = self.unit.scopes.parents.get(store), self_class(store.value, self.unit.scopes)
@@ -468,11 +626,20 @@ class _Finder:
                     yield from self.found(above.value, row.mode, None, row)
 
 
+def _named(call: ast.Call) -> Iterator[Tuple[str, ast.expr]]:
+    """Yields the arguments that a call gives by name, also those in a dictionary behind `**`."""
+    for it in call.keywords:
+        if it.arg is not None:
+            yield it.arg, it.value
+        elif isinstance(it.value, ast.Dict) and all(isinstance(key, ast.Constant) for key in it.value.keys):
+            yield from ((str(getattr(key, "value")), value) for key, value in zip(it.value.keys, it.value.values))
+
+
 def _argument(call: ast.Call, position: int, names: Sequence[str]) -> Optional[ast.expr]:
     """The first argument with one of the names, or else the one at the position; None if there is none."""
-    for it in call.keywords:
-        if it.arg and it.arg in names:
-            return it.value
+    for name, value in _named(call) if names else ():
+        if name in names:
+            return value
     if position < 0 or position >= len(call.args) or any(isinstance(it, ast.Starred) for it in call.args[:position + 1]):
         return None
     return call.args[position]
@@ -506,32 +673,42 @@ def _first_literal(node: ast.expr) -> ast.expr:
     return first if is_text or isinstance(first, ast.JoinedStr) else node
 
 
-def _held_by(shape: str, found: Bound) -> Iterator[ast.expr]:
-    """Yields the expressions of the patterns that a binding holds in a shape: a text, rules of PLY, or a table of Pygments."""
-    if shape == "rules" and found.kind == "function":
-        calls = [it for it in found.node.decorator_list if isinstance(it, ast.Call) and it.args]
-        token = [it.args[0] for it in calls if last_name(it) == "TOKEN"]
-        first = found.node.body[0]
-        if token or isinstance(first, ast.Expr) and isinstance(first.value, ast.Constant):
-            yield token[0] if token else first.value
-    if found.value is None or found.kind != "value":
-        return
-    yield from _in_shape(shape, found.value)
+def _of_rule(found: Bound) -> Iterator[ast.expr]:
+    """Yields the expression of the pattern of a function that is a rule of PLY."""
+    calls = [it for it in found.node.decorator_list if isinstance(it, ast.Call) and it.args]
+    token = [it.args[0] for it in calls if last_name(it) == "TOKEN"]
+    first = found.node.body[0]
+    if token or isinstance(first, ast.Expr) and isinstance(first.value, ast.Constant):
+        yield token[0] if token else first.value
 
 
-def _in_shape(shape: str, node: ast.expr) -> Iterator[ast.expr]:
-    """Yields the expressions of the patterns in an expression of a shape."""
-    if shape in ("text", "rules"):
-        yield node
-    elif shape == "tokens":
-        for state in node.values if isinstance(node, ast.Dict) else []:
-            yield from _in_shape("pairs", state)
-    elif isinstance(node, (ast.List, ast.Tuple)):
-        for it in node.elts:
-            if shape == "list":
-                yield it
-            elif isinstance(it, ast.Tuple) and len(it.elts) > 1:
-                yield it.elts[0]
+def _in_table(shape: str, node: ast.Dict) -> Iterator[Tuple[str, ast.expr]]:
+    """Yields what is in a dictionary of a shape and may hold patterns, each with its own shape."""
+    # (what stands before a `**` may be replaced by that)
+    last = max((at for at, key in enumerate(node.keys) if key is None), default=-1)
+    for key, value in list(zip(node.keys, node.values))[last + 1:]:
+        word = key.value if isinstance(key, ast.Constant) else None
+        if shape == "keys" and key is not None:
+            yield "text", key
+        elif shape == "tokens":
+            yield "pairs", value
+        elif shape == "schemas":
+            yield "schema", value
+        elif shape == "schema" and word not in NO_SCHEMAS:
+            yield "text" if word == "pattern" else "schemas" if word in SCHEMAS else "schema", value
+            if word == "patternProperties":
+                yield "keys", value
+
+
+def _as_taken(known: Known, row: Optional[Taker]) -> Known:
+    """The pattern that a taker makes of what it gets. Raises NotKnown."""
+    if row is not None and row.shape in routes.FORMS:
+        return texts.made(routes.routed(row.shape, known.whole()), (known,))
+    if row is None or not row.around:
+        return known
+    if not isinstance(known.value, str):
+        raise NotKnown("not a text")
+    return texts.made(row.around.replace("{}", known.value), (known,))
 
 
 # ---- notebooks
@@ -575,8 +752,11 @@ def notebook(data: bytes) -> Notebook:
     origins: List[Tuple[int, int]] = []
     left_out: List[int] = []
     for number, text in _code(cells):
-        of_cell = [_without_magic(it) for it in LINE_END.split(text)]
-        is_other = text.lstrip().startswith("%%")
+        of_cell = LINE_END.split(text)
+        magic = CELL_MAGIC.match(text)
+        is_other = magic is not None and magic[1].lower() in OTHER_LANGUAGES
+        if is_other or not _is_python("\n".join(of_cell)):
+            of_cell = [_without_magic(it) for it in of_cell]
         if is_other or not _is_python("\n".join(of_cell)):
             left_out += [] if is_other else [number]
             of_cell = [""] * len(of_cell)
@@ -597,11 +777,16 @@ def _code(cells: List[Any]) -> Iterator[Tuple[int, str]]:
 
 
 def _without_magic(line: str) -> str:
-    """The line, or `pass` for a command of the notebook, which begins with %, ! or ?, or ends with ?."""
+    """The line, or `pass` for a command of the notebook: one that begins with %, ! or ?, or a name with ? behind it.
+
+    What a command times stays, at its place.
+    """
     begun = line.lstrip()
-    if begun[:1] in ("%", "!", "?") or line.rstrip().endswith("?"):
-        return line[:len(line) - len(begun)] + "pass"
-    return line
+    front = line[:len(line) - len(begun)]
+    timed = TIMED.match(begun)
+    if timed is not None:
+        return front + "pass;".ljust(timed.end()) + begun[timed.end():]
+    return front + "pass" if begun[:1] in ("%", "!", "?") or HELP.match(begun) else line
 
 
 def _is_python(text: str) -> bool:

@@ -36,6 +36,9 @@ NOQA = re.compile(r"# noqa(?::\s?([A-Z]+[0-9]+(?:[,\s]*[A-Z]+[0-9]+)*))?", re.I)
 # The largest number of tokens in the flags of a call and in the rest of a call, and of literals of a pattern.
 MOST_TOKENS_OF_FLAGS, MOST_TOKENS, MOST_LITERALS = 100, 100_000, 10_000
 MOST_DEPTH, MOST_LINES, LONGEST_LINE = 100, 40, 10_000
+# What stands before the first argument of a call: its name, in so many characters.
+BEFORE = re.compile(r"([^\W\d]\w*)\s*\((?:\s|#[^\n]*\n)*(?:pattern\s*=\s*)?\Z")
+LONGEST_BEFORE = 300
 # In a source with a longer line no comment counts, as the tokenizer of some Pythons takes too long for it.
 LONGEST_SPLIT = 100_000
 # The position of the argument `flags` in each call, if it is given without its name.
@@ -182,6 +185,14 @@ class Unit:
             return None
         return Site(value, self._flags(place, call, literals[-1].end), literals, offsets_of(literals, value),
                     function=self.function_at(place), in_tests=is_test(self.path))
+
+    def takes(self, call: str, site: Site) -> bool:
+        """Returns whether a pattern is the first argument of a function of this name, perhaps imported under another one."""
+        start = site.literals[0].start
+        found = BEFORE.search(self.text[max(0, start - LONGEST_BEFORE):start])
+        if found is None or found[1] == call:
+            return found is not None
+        return re.search(rf"\b{call}\s+as\s+{re.escape(found[1])}\b", self.text) is not None
 
     def literals(self, place: Place) -> Tuple[Literal, ...]:
         """Returns the adjacent string literals that begin at a place, as Python reads them.

@@ -6,6 +6,7 @@ its place.
 """
 from __future__ import annotations
 
+import fnmatch
 import re
 import textwrap
 from dataclasses import dataclass, field, replace
@@ -18,6 +19,8 @@ MARKS = "\ue000", "\ue001"
 STAND_INS = ("word", "text")
 PERCENT = re.compile(r"%(?:\(([^()]*)\))?(.)", re.S)
 FIELD = re.compile(r"\{\{|\}\}|\{([^{}!:]*)(![rs])?(:)?\}|[{}]")
+# A glob with at most one star, and sets of letters and digits.
+GLOB = re.compile(r"(?:[^*\[]|\[!?[A-Za-z0-9_]+\])*(?:\*+(?:[^*\[]|\[!?[A-Za-z0-9_]+\])*)?")
 # An escape, a character class, what a word must not stand in (the count of a repeat, the head of a group), or any character.
 PIECE = re.compile(r"\\.|\[\^?\]?(?:\\.|[^\]\\])*(?:\]|\Z)|\{[\d,]*\ue000|\(\?[\w<>#-]*\ue000|\(\?#[^)]*|.", re.S)
 
@@ -302,6 +305,14 @@ def escaped(part: Known) -> Known:
     """Returns `re.escape` of a text."""
     text: Any = part.whole()
     return made(re.escape(text), (part,))
+
+
+def translated(part: Known) -> Known:
+    """Returns `fnmatch.translate` of a text for which all versions of Python give the same, but for what the end is called."""
+    text = part.whole()
+    if not isinstance(text, str) or GLOB.fullmatch(text) is None:
+        raise NotKnown("glob that versions of Python translate in different ways")
+    return made(fnmatch.translate(text).replace("\\z", "\\Z"), (part,))
 
 
 def dedented(part: Known) -> Known:

@@ -202,6 +202,17 @@ def is_kept(node: ast.AST, names: Names) -> bool:
     return isinstance(above, (ast.Compare, ast.Starred, ast.FormattedValue, ast.Expr))
 
 
+def is_alone(name: str, node: ast.ClassDef, names: Names) -> bool:
+    """Returns whether only the body of a class binds an attribute of its objects, as far as a source can tell.
+
+    The class has no base and no class below it, so it is alone with the name.
+    """
+    its = binders(name, names)
+    is_plain = all(isinstance(it, ast.Name) and it.id == "object" for it in node.bases) and not node.keywords
+    return is_plain and not node.decorator_list and is_leaf(node, names) and not can_set_attributes(names) and (
+        len([it for it in its if it.owner is node]) == 1 and all(it.owner is not None for it in its))
+
+
 def is_leaf(node: ast.ClassDef, names: Names) -> bool:
     """Returns whether a source has no class below this one, and gives the class to nothing that may change it."""
     return _is_untouched(node.name, names)

@@ -1,26 +1,29 @@
 """Runs `relint check` over shares of the files, and reads reports.
 
-Anyone may have written a report, so everything in one is checked: its size, its types, its numbers, and the names in it. Its
-entries are read one by one, so that it takes little memory, and reading stops when time runs out.
+Anyone may have written a report, so everything in one is checked: its size, its types, its numbers, and the names in it. It
+is read piece by piece and entry by entry, so that it takes little memory, and reading stops when time runs out.
 """
 from __future__ import annotations
 
+import codecs
 import json
 import os
 import re
 import select
 import time
 from dataclasses import dataclass, field
-from typing import Any, Callable, Dict, Iterator, List, Mapping, Optional, Sequence, Set, Tuple
+from typing import Any, Callable, Dict, Iterable, Iterator, List, Mapping, Optional, Sequence, Set, Tuple
 
 from ..base.model import CALLS, KINDS, Bound, Entry, Family, NotLooked, Place, Text, Verdict
 from ..base.words import CAUSES
 from ..options import Options
 from .program import READ_AT_A_TIME, ProgramError, Running, located
 
-MOST_BYTES = 268_435_456
+# The bytes of a report, and of one value in it.
+MOST_BYTES, MOST_OF_A_VALUE = 268_435_456, 67_108_864
 MOST_ENTRIES = 500_000
 MOST_NUMBER, MOST_DEGREE, MOST_CODES, MOST_PLACES = 4_294_967_295, 999_999, 1_000_000, 100_000
+COUNTS = ("findings", "refused", "undecided")
 WORD = re.compile(r"[a-z][a-z0-9-]{0,40}")
 # The two forms of a quoted text: a raw one without escapes, and one with the escapes that relint writes.
 QUOTED = re.compile(
@@ -192,19 +195,54 @@ DECODER = json.JSONDecoder(parse_int=_whole, parse_float=_no_number, parse_const
 BLANK = re.compile(r"[ \t\r\n]*")
 
 
-class _Reader:
-    """Reads a report from its text, entry by entry."""
+class _Late(Exception):
+    """Raised if time runs out while a report is read."""
 
-    def __init__(self, text: str, deadline: float) -> None:
-        """Takes the text, and the time of `time.monotonic` at which reading stops."""
-        self.text, self.deadline, self.at = text, deadline, 0
+
+class _Reader:
+    """Reads a report from its bytes, which come in parts, entry by entry."""
+
+    def __init__(self, parts: Iterable[bytes], deadline: float) -> None:
+        """Takes the parts, and the time of `time.monotonic` at which reading stops."""
+        self.parts, self.deadline = iter(parts), deadline
+        self.decode = codecs.getincrementaldecoder("utf-8")().decode
+        self.text, self.at, self.size, self.inside = "", 0, 0, 0
+        self.is_whole = False
         self.entries: List[Entry] = []
-        self.late = False
+
+    def more(self) -> bool:
+        """Reads at least as much again as is left of the text; returns whether there was more."""
+        found = [self.text[self.at:]]
+        wanted = self.size + len(found[0])
+        while not self.is_whole and self.size <= wanted:
+            if time.monotonic() > self.deadline:
+                raise _Late
+            part = next(self.parts, None)
+            self.is_whole = part is None
+            found.append(self.decode(part or b"", self.is_whole))
+            self.count(part or b"")
+        self.text, self.at = "".join(found), 0
+        if len(self.text) > MOST_OF_A_VALUE:
+            raise ReportError(f"the report has a value of more than {MOST_OF_A_VALUE:,} characters")
+        return len(self.text) > len(found[0])
+
+    def count(self, part: bytes) -> None:
+        """Counts a part. Raises ReportError if the report is too large so far, or no report of relint has its form."""
+        self.size += len(part)
+        self.inside += part.count(b"[") + part.count(b"{")
+        if self.size > MOST_BYTES:
+            raise ReportError(f"the report has more than {MOST_BYTES:,} bytes")
+        # (lists and objects take memory; reports of relint have far fewer)
+        if self.inside > self.size // 16 + 10_000:
+            raise ReportError("the report has more lists and objects than any report of relint of its size")
 
     def blanks(self) -> None:
         """Goes over blanks."""
-        match = BLANK.match(self.text, self.at)
-        self.at = match.end() if match else self.at
+        while True:
+            match = BLANK.match(self.text, self.at)
+            self.at = match.end() if match else self.at
+            if self.at < len(self.text) or not self.more():
+                return
 
     def token(self, wanted: str) -> bool:
         """Goes over blanks, and over the character `wanted` if it is there; returns whether it was."""
@@ -216,13 +254,21 @@ class _Reader:
     def need(self, wanted: str) -> None:
         """Goes over the character `wanted`. Raises ReportError if it isn't there."""
         if not self.token(wanted):
-            raise ReportError(f"the report is no JSON: {wanted} is wanted at {self.at}")
+            raise ReportError(f"the report is no JSON: {wanted} is wanted")
 
     def value(self) -> Any:
         """Returns the next value of JSON."""
         self.blanks()
-        found, self.at = DECODER.raw_decode(self.text, self.at)
-        return found
+        while True:
+            try:
+                found, end = DECODER.raw_decode(self.text, self.at)
+                # (of a number, only a part may have been read)
+                if end < len(self.text) or not self.more():
+                    self.at = end
+                    return found
+            except ValueError:
+                if not self.more():
+                    raise
 
     def report(self) -> None:
         """Reads the whole report."""
@@ -237,15 +283,17 @@ class _Reader:
                 self.list()
             else:
                 value = self.value()
-                if key == "version" and value not in (1, 2):
+                if key == "version" and (type(value) is not int or value not in (1, 2)):
                     raise ReportError("this JSON is a report of an unknown version")
+                if key in COUNTS and (type(value) is not int or value < 0):
+                    raise ReportError(f"the report has something else than a number under {key}")
             seen.add(key)
-            if self.late or not self.token(","):
+            if not self.token(","):
                 break
-        if not self.late:
-            self.need("}")
-            if not {"entries", "version"} <= seen or BLANK.fullmatch(self.text, self.at) is None:
-                raise ReportError("this JSON is no report of relint check --format json, or of rlt")
+        self.need("}")
+        self.blanks()
+        if not {"entries", "version"} <= seen or self.at < len(self.text):
+            raise ReportError("this JSON is no report of relint check --format json, or of rlt")
 
     def list(self) -> None:
         """Reads the list of entries."""
@@ -254,8 +302,7 @@ class _Reader:
             return
         while True:
             if time.monotonic() > self.deadline:
-                self.late = True
-                return
+                raise _Late
             if len(self.entries) >= MOST_ENTRIES:
                 raise ReportError(f"the report has more than {MOST_ENTRIES:,} entries")
             self.entry()
@@ -273,24 +320,21 @@ class _Reader:
             raise ReportError(f"entry {len(self.entries) + 1} of the report lacks what such an entry has") from error
 
 
-def read_report(data: bytes, deadline: float = float("inf")) -> Report:
+def read_report(parts: Iterable[bytes], deadline: float = float("inf")) -> Report:
     """Returns the report in a JSON text, as far as it was read at the time `deadline` of `time.monotonic`.
 
-    Raises ReportError if it isn't one, or exceeds the limits of this module.
+    The text comes in parts. Raises ReportError if it isn't a report, or exceeds the limits of this module.
     """
-    if len(data) > MOST_BYTES:
-        raise ReportError(f"the report has more than {MOST_BYTES:,} bytes")
-    # (lists and objects take memory; reports of relint have far fewer)
-    if data.count(b"[") + data.count(b"{") > len(data) // 16 + 10_000:
-        raise ReportError("the report has more lists and objects than any report of relint of its size")
+    reader = _Reader(parts, deadline)
     try:
-        reader = _Reader(data.decode("utf-8"), deadline)
         reader.report()
+    except _Late:
+        return Report(tuple(reader.entries), True)
     except RecursionError as error:
         raise ReportError("the report is nested too deep") from error
     except ValueError as error:
         raise ReportError(f"the report is no JSON: {str(error)[:200]}") from error
-    return Report(tuple(reader.entries), reader.late)
+    return Report(tuple(reader.entries))
 
 
 # Judging.
@@ -329,7 +373,7 @@ class _Judge:
         self.waiting: List[_Share] = []
         self.busy: Dict[int, _Share] = {}
         self.reports: Dict[Tuple[int, ...], Report] = {}
-        self.slow: List[str] = []
+        self.slow: List[Tuple[Tuple[int, ...], str]] = []
 
     def judged(self, files: Sequence[str]) -> Judged:
         """Returns what all runs said."""
@@ -348,7 +392,8 @@ class _Judge:
         entries = [entry for order in sorted(self.reports) for entry in self.reports[order].entries]
         late = bool(left) or any(it.late for it in self.reports.values())
         lost = [not_looked(it) for it in entries if it.call is None]
-        return Judged(tuple(entries), tuple(lost), tuple(self.slow), tuple(path for it in left for path in it.files), late)
+        slow = tuple(path for _, path in sorted(self.slow))
+        return Judged(tuple(entries), tuple(lost), slow, tuple(path for it in left for path in it.files), late)
 
     def start(self, share: _Share) -> None:
         """Starts the run of a share."""
@@ -367,42 +412,39 @@ class _Judge:
             share.parts.append(part)
             share.size += len(part)
             if not part:
-                self.end(share, False)
+                self.take(share)
             elif share.size > MOST_BYTES:
                 self.cut(share)
         for share in list(self.busy.values()):
             if time.monotonic() >= share.until:
                 self.cut(share)
 
-    def end(self, share: _Share, at_once: bool) -> int:
-        """Ends the run of a share, reads its report unless it is ended `at_once`, and returns its status."""
+    def end(self, share: _Share, at_once: bool = False) -> int:
+        """Ends the run of a share, and returns its status."""
         assert share.running is not None
         del self.busy[share.running.out]
-        status = share.running.end(at_once)
-        if at_once:
-            return status
+        return share.running.end(at_once)
+
+    def take(self, share: _Share) -> None:
+        """Reads the report of a share whose run has ended, and tells how far all runs are."""
+        status = self.end(share)
         if status in (5, -6, -9, -11):
             self.queue(share)  # (it is out of memory, or crashed: fewer files take less)
-        elif status in (0, 1, 3):
-            try:
-                self.reports[share.order] = report = read_report(b"".join(share.parts), self.deadline)
-                self.tell(len(share.files), report.entries)
-            except ReportError as error:
-                raise ProgramError(f"the report of {self.words[0]} can't be read: {error}") from error
-        else:
+            return
+        if status not in (0, 1, 3):
             raise ProgramError(f"{self.words[0]} check ended with status {status}: is it relint?")
-        return status
-
-    def tell(self, files: int, entries: Sequence[Entry]) -> None:
-        """Tells how far the run is, after so many files more with these entries."""
+        try:
+            self.reports[share.order] = report = read_report(share.parts, self.deadline)
+        except ReportError as error:
+            raise ProgramError(f"the report of {self.words[0]} can't be read: {error}") from error
         if self.progress is not None:
-            self.done += files
-            self.findings += sum(it.verdict is not None and it.verdict.is_finding(self.max_degree) for it in entries)
+            self.done += len(share.files)
+            self.findings += sum(it.verdict is not None and it.verdict.is_finding(self.max_degree) for it in report.entries)
             self.progress(self.done, self.every, self.findings)
 
     def cut(self, share: _Share) -> None:
         """Ends the run of a share that takes too long or writes too much, and lets its files be judged in smaller shares."""
-        self.end(share, True)
+        self.end(share, at_once=True)
         if share.until < self.deadline or share.size > MOST_BYTES:
             self.queue(share)
         else:
@@ -411,7 +453,7 @@ class _Judge:
     def queue(self, share: _Share) -> None:
         """Puts smaller shares of the files to those that wait; a single file is slow."""
         if len(share.files) == 1:
-            self.slow += share.files
+            self.slow.append((share.order, share.files[0]))
             return
         size = FILES_OF_A_CUT if len(share.files) > FILES_OF_A_CUT else 1
         cut = [_Share((*share.order, at), share.files[at:at + size]) for at in range(0, len(share.files), size)]

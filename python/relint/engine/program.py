@@ -11,19 +11,17 @@ import os
 import platform
 import resource
 import select
-import signal
+import subprocess
 import time
+from contextlib import suppress
 from typing import Dict, List, Mapping, Optional, Sequence, Tuple
 
-FINDING, REFUSED, TREE_FAULT, WRITE_FAULT, NO_MEMORY, INTERRUPTED = 1, 2, 3, 4, 5, 130
 MACHINES = {"x86_64": "x86_64", "amd64": "x86_64", "aarch64": "aarch64", "arm64": "aarch64"}
 # What the keys of release/INFO about a program begin with.
 FRONTS = {"relint": "", "relint-ask": "ask-"}
 LARGEST_PROGRAM = 1 << 26
 MOST_MEMORY = 4 << 30
 READ_AT_A_TIME = 1 << 20
-# The signals that Python ignores; programs that it starts are to have their default actions.
-DEFAULT_SIGNALS = [getattr(signal, it) for it in ("SIGPIPE", "SIGXFZ", "SIGXFSZ") if hasattr(signal, it)]
 
 _located: Dict[str, str] = {}
 
@@ -62,7 +60,10 @@ def _found(name: str, variable: str) -> str:
     """Returns the path of the program of the clone, of the installation or of the PATH."""
     top = os.path.dirname(os.path.dirname(_package()))
     is_clone = os.path.isfile(os.path.join(top, "crates.txt"))
-    found = (_released(top, name) or _built(top, name) if is_clone else _installed(name)) or on_path(name)
+    crate = name.replace("-", "_")
+    built = os.path.join(top, "crates", crate, "out", crate)
+    own = _released(top, name) or (built if _can_run(built) else None) if is_clone else _installed(name)
+    found = own or on_path(name)
     if found:
         return found
     if is_clone:
@@ -110,22 +111,8 @@ def _released(top: str, name: str) -> Optional[str]:
 
 def _sum(path: str) -> str:
     """The SHA-256 of a program in hexadecimal digits."""
-    # (hashlib takes longer to import than this file takes to read)
-    for module in ("_sha2", "_sha256", "hashlib"):
-        try:
-            made = importlib.import_module(module).sha256
-            break
-        except ImportError:
-            continue
     with open(path, "rb") as file:
-        return str(made(file.read(LARGEST_PROGRAM)).hexdigest())
-
-
-def _built(top: str, name: str) -> Optional[str]:
-    """The program that was built in the clone, or None."""
-    crate = name.replace("-", "_")
-    found = os.path.join(top, "crates", crate, "out", crate)
-    return found if _can_run(found) else None
+        return str(importlib.import_module("hashlib").sha256(file.read(LARGEST_PROGRAM)).hexdigest())
 
 
 def _installed(name: str) -> Optional[str]:
@@ -160,49 +147,30 @@ class Running:
 
     def __init__(self, words: Sequence[str], has_input: bool = False, environment: Optional[Mapping[str, str]] = None) -> None:
         """Starts a program: the absolute path of its file, and its arguments. Raises ProgramError if it can't be started."""
-        self.out, out_end = os.pipe()
-        in_end, self.into = os.pipe() if has_input else (os.open(os.devnull, os.O_RDONLY), -1)
-        actions = [(os.POSIX_SPAWN_DUP2, in_end, 0), (os.POSIX_SPAWN_DUP2, out_end, 1),
-                   (os.POSIX_SPAWN_OPEN, 2, os.devnull, os.O_WRONLY, 0)]
+        pipe, null = subprocess.PIPE, subprocess.DEVNULL
         try:
-            self.pid = os.posix_spawn(words[0], [os.fsencode(it) for it in words], environment or os.environ,
-                                      file_actions=actions, setsigdef=DEFAULT_SIGNALS)
+            self._process = subprocess.Popen(words, bufsize=0, stdin=pipe if has_input else null, stdout=pipe, stderr=null,
+                                             env=environment)
         except (OSError, ValueError) as error:
-            self._close()
             why = error.strerror if isinstance(error, OSError) else str(error)
             raise ProgramError(f"{words[0]} can't be run: {why}") from error
-        finally:
-            os.close(in_end)
-            os.close(out_end)
-        self._limit()
-
-    def _limit(self) -> None:
-        """Bounds the memory of the program, if the system lets it."""
-        try:
+        assert self._process.stdout is not None
+        self.out = self._process.stdout.fileno()
+        self.into = self._process.stdin.fileno() if self._process.stdin is not None else -1
+        # (its memory is bounded, if the system lets it)
+        with suppress(AttributeError, OSError, ValueError):
             hard = resource.getrlimit(resource.RLIMIT_AS)[1]
             most = MOST_MEMORY if hard == resource.RLIM_INFINITY else min(MOST_MEMORY, hard)
-            resource.prlimit(self.pid, resource.RLIMIT_AS, (most, hard))
-        except (AttributeError, OSError, ValueError):
-            pass
-
-    def close_input(self) -> None:
-        """Ends the input of the program."""
-        if self.into >= 0:
-            os.close(self.into)
-            self.into = -1
-
-    def _close(self) -> None:
-        """Closes the descriptors."""
-        os.close(self.out)
-        self.close_input()
+            resource.prlimit(self._process.pid, resource.RLIMIT_AS, (most, hard))
 
     def end(self, at_once: bool = True) -> int:
         """Waits until the program has ended, after killing it if `at_once`; returns its status, -N if signal N ended it."""
         if at_once:
-            os.kill(self.pid, signal.SIGKILL)
-        self._close()
-        _, status = os.waitpid(self.pid, 0)
-        return -os.WTERMSIG(status) if os.WIFSIGNALED(status) else os.WEXITSTATUS(status)
+            self._process.kill()
+        for it in (self._process.stdout, self._process.stdin):
+            if it is not None:
+                it.close()
+        return self._process.wait()
 
 
 def output_of(

@@ -13,26 +13,28 @@ import re
 import sys
 import tempfile
 import time
-import unicodedata
 from bisect import bisect_left, bisect_right
+from contextlib import suppress
 from dataclasses import dataclass
 from itertools import accumulate
-from typing import Any, Dict, Iterator, List, Optional, Sequence, Tuple, Union
+from typing import Dict, Iterator, List, NamedTuple, Optional, Sequence, Tuple, Union
 
 from ..base.model import NEW, PROVED, Entry, Finding, Literal, Offer, Site, Text
-from ..base.safe import FolderReader, OpenError, WriteError, is_seen, names_below, read_below, replace_file, visible
+from ..base.safe import OpenError, WriteError, is_seen, names_below, place_of, read_below, reason, replace_file, visible
 from ..base.words import counted
+from ..code.source import BYTES_ESCAPE, ESCAPE, RAW_CODE, STRING
+from ..engine.ask import as_text
 from ..engine.engine import judge
 from ..options import Options
 
 LITERAL = re.compile(r"([rRbBuU]*)('''|\"\"\"|'|\")")
-ENDED = r"(?:\\[\s\S]|(?!{0})[^\\])*{0}"
-ESCAPE = re.compile(r"\\(?:\r\n|[0-7]{1,3}|x[0-9a-fA-F]{2}|u[0-9a-fA-F]{4}|U[0-9a-fA-F]{8}|N\{[^}]*\}|[\s\S])|\r\n|[\s\S]")
-SINGLE = {"\\": "\\", "'": "'", '"': '"', "a": "\a", "b": "\b", "f": "\f", "n": "\n", "r": "\r", "t": "\t", "v": "\v"}
-MARK = b"\xef\xbb\xbf"
 LINES = re.compile(r"[^\n]*\n|[^\n]+")
 KINDS = ("fix", "better", "advice")
+# What stands behind the backslash of an escape that Python knows; in bytes, those with u, U and N aren't any.
+KNOWN = "\\'\"abfnrtvxuUN01234567"
 SECONDS, MOST_MATCHED = 60.0, 4_000_000
+# So many lines before and behind a change are in a diff.
+CONTEXT = 3
 
 
 class Unchangeable(Exception):
@@ -68,44 +70,34 @@ class Spelled:
     def __init__(self, literal: Literal) -> None:
         """Takes the literal. Raises Unchangeable if it is an f-string or can't be read."""
         found = LITERAL.match(literal.text)
-        if found is None or not re.compile(ENDED.format(found[2])).fullmatch(literal.text, found.end()):
+        if found is None or not STRING.fullmatch(literal.text):
             raise Unchangeable("a literal of it can't be read")
         self.quote, prefix = found[2], found[1].lower()
         self.raw, self.is_bytes = "r" in prefix, "b" in prefix
-        self.start, self.end = literal.start + found.end(), literal.end - len(self.quote)
+        self.end = literal.end - len(self.quote)
         self.units: List[Tuple[int, int]] = []
         self.value = ""
-        for it in (re.compile(r"\r\n|[\s\S]") if self.raw else ESCAPE).finditer(literal.text[found.end():-len(self.quote)]):
-            self._add(it[0], self.start + it.start())
-
-    def _add(self, text: str, at: int) -> None:
-        """Adds a character or an escape that stands at an offset."""
-        if self.raw or text[0] != "\\":
-            value = "\n" if text in ("\r\n", "\r") else text
-        elif text[1] in "\r\n":
-            return
-        else:
-            value = self._meant(text)
-        if len(value) == 1:
-            self.units.append((at, at + len(text)))
-        else:
+        form = RAW_CODE if self.raw else BYTES_ESCAPE if self.is_bytes else ESCAPE
+        for it in form.finditer(literal.text, found.end(), len(literal.text) - len(self.quote)):
+            value, at = self._meant(it[0]), literal.start + it.start()
             # (an escape that Python doesn't know stays as it is, backslash and all)
-            self.units += [(one, one + 1) for one in range(at, at + len(text))]
-        self.value += value
+            size = len(it[0]) if len(value) == 1 else 1
+            self.units += [(at + one, at + one + size) for one in range(len(value))]
+            self.value += value
 
     def _meant(self, text: str) -> str:
-        """Returns the character that an escape means, or the escape if it means none."""
-        sign = text[1]
+        """Returns what a character or an escape of it means: nothing at a line that goes on."""
+        if self.raw or text[0] != "\\":
+            return "\n" if text in ("\r\n", "\r") else text
+        if text[1] in "\r\n":
+            return ""
+        if text[1] not in KNOWN or self.is_bytes and text[1] in "uUN":
+            return text
         try:
-            if sign in "01234567":
-                return chr(int(text[1:], 8) & (0xFF if self.is_bytes else 0x1FF))
-            if len(text) > 2 and (sign == "x" or not self.is_bytes and sign in "uU"):
-                return chr(int(text[2:], 16))
-            if len(text) > 2 and sign == "N" and not self.is_bytes:
-                return unicodedata.lookup(text[3:-1])
-        except (ValueError, KeyError, OverflowError) as error:
+            found = text.encode("ascii").decode("unicode_escape")
+        except ValueError as error:
             raise Unchangeable("an escape of it can't be read") from error
-        return SINGLE.get(sign, text)
+        return chr(ord(found) & 0xFF) if self.is_bytes else found
 
     def written(self, text: str) -> str:
         """Returns how new characters are written in it; raises Unchangeable if it is raw and can't hold them."""
@@ -142,12 +134,10 @@ def edits(site: Site, new: Text) -> List[Edit]:
     """
     if value_of(site.literals) != site.pattern or isinstance(new, str) != isinstance(site.pattern, str):
         raise Unchangeable("its literals don't give the pattern")
-    try:
-        found = _in_place([Spelled(it) for it in site.literals], new if isinstance(new, str) else new.decode("latin-1"))
+    with suppress(Unchangeable):
+        found = _in_place([Spelled(it) for it in site.literals], as_text(new))
         if value_of(_after(site, found)) == new:
             return found
-    except Unchangeable:
-        pass
     found = _anew(site, new)
     if value_of(_after(site, found)) != new:
         raise Unchangeable("its literals can't hold the new pattern")
@@ -188,7 +178,7 @@ def _anew(site: Site, new: Text) -> List[Edit]:
     """The edits that put the whole pattern in place of the first literal, and make the others empty."""
     found = LITERAL.match(site.literals[0].text)
     quote = found[2] if found else "'"
-    text, prefix = (new, "") if isinstance(new, str) else (new.decode("latin-1"), "b")
+    text, prefix = as_text(new), "" if isinstance(new, str) else "b"
     is_plain = quote[0] not in text and "\r" not in text and (len(quote) == 3 or "\n" not in text) and text.isprintable()
     whole = f"{prefix}r{quote}{text}{quote}" if is_plain and not text.endswith("\\") else ascii(new)
     return [Edit(it.start, it.end, whole if at == 0 else f"{prefix}''") for at, it in enumerate(site.literals)]
@@ -206,9 +196,11 @@ def _after(site: Site, changed: Sequence[Edit]) -> List[Literal]:
 
 def applied(text: str, changed: Sequence[Edit]) -> str:
     """Returns the text after the edits, which may come in any order but mustn't overlap."""
+    parts, at = [], len(text)
     for it in sorted(changed, key=lambda one: (one.start, one.end), reverse=True):
-        text = text[:it.start] + it.text + text[it.end:]
-    return text
+        parts += [text[it.end:at], it.text]
+        at = it.start
+    return "".join([text[:at], *reversed(parts)])
 
 
 def literal_of(site: Site, new: Text) -> str:
@@ -248,6 +240,7 @@ class Change:
         ordered = sorted(changed, key=lambda it: (it.start, it.end))
         if any(one.end > other.start for one, other in zip(ordered, ordered[1:])):
             raise Unchangeable("two changes overlap")
+        self.edits = ordered
         self.text = self.front + applied(text, changed)
 
     def done(self, lost: Sequence[str] = ()) -> Written:
@@ -281,10 +274,69 @@ class Change:
 
     def diff(self, folder: str = os.curdir) -> Iterator[str]:
         """Yields the lines of a unified diff in git's format, for `patch -p1` in the folder. Raises Unchangeable."""
-        old, new = LINES.findall(self.data.decode("utf-8")), LINES.findall(self.text)
+        text = self.data.decode("utf-8")
+        edited = [Edit(it.start + len(self.front), it.end + len(self.front), it.text) for it in self.edits]
+        old, new = LINES.findall(text), LINES.findall(self.text)
         name = "/".join(names_below(self.path, folder) or [self.path.lstrip("/")])
-        for it in difflib.unified_diff(old, new, header_name(f"a/{name}"), header_name(f"b/{name}")):
+        yield f"--- {header_name(f'a/{name}')}\n"
+        yield f"+++ {header_name(f'b/{name}')}\n"
+        for it in hunks(old, new, blocks(text, edited)):
             yield it if it.endswith("\n") else it + "\n\\ No newline at end of file\n"
+
+
+class Block(NamedTuple):
+    """Lines that edits change: from `old` to `old_end` before them, and from `new` to `new_end` afterwards."""
+
+    old: int
+    old_end: int
+    new: int
+    new_end: int
+
+
+def blocks(text: str, edited: Sequence[Edit]) -> List[Block]:
+    """Returns the lines of a text that edits change, in order; no two blocks touch each other."""
+    starts = [0, *(it.end() for it in re.finditer("\n", text))]
+    found: List[Block] = []
+    more = 0
+    for it in edited:
+        first, last = bisect_right(starts, it.start) - 1, bisect_right(starts, it.end)
+        own = it.text.count("\n") - text.count("\n", it.start, it.end)
+        if found and first <= found[-1].old_end:
+            before = found.pop()
+            end = max(before.old_end, last)
+            found.append(before._replace(old_end=end, new_end=end + more + own))
+        else:
+            found.append(Block(first, last, first + more, last + more + own))
+        more += own
+    return found
+
+
+def hunks(old: Sequence[str], new: Sequence[str], changed: Sequence[Block]) -> Iterator[str]:
+    """Yields the lines of a unified diff for blocks of changed lines, without its two first lines.
+
+    The time doesn't hang on what the lines are, as it does where a diff looks for equal ones.
+    """
+    groups: List[List[Block]] = []
+    for it in changed:
+        if groups and it.old - groups[-1][-1].old_end <= 2 * CONTEXT:
+            groups[-1].append(it)
+        else:
+            groups.append([it])
+    for group in groups:
+        at, end = max(0, group[0].old - CONTEXT), min(len(old), group[-1].old_end + CONTEXT)
+        start, more = group[0].new - (group[0].old - at), group[-1].new_end - group[-1].old_end
+        yield f"@@ -{_range(at, end - at)} +{_range(start, end + more - start)} @@\n"
+        for it in group:
+            yield from (f" {line}" for line in old[at:it.old])
+            yield from (f"-{line}" for line in old[it.old:it.old_end])
+            yield from (f"+{line}" for line in new[it.new:it.new_end])
+            at = it.old_end
+        yield from (f" {line}" for line in old[at:end])
+
+
+def _range(start: int, length: int) -> str:
+    """A range of lines as a unified diff writes it."""
+    return f"{start + 1}" if length == 1 else f"{start + (length > 0)},{length}"
 
 
 def _key(entry: Entry) -> Tuple[object, ...]:
@@ -321,62 +373,54 @@ def _by_path(findings: Sequence[Finding], advice: bool) -> Dict[str, List[Tuple[
     return found
 
 
-def patch(
-    findings: Sequence[Finding], reader: FolderReader, options: Options, deadline: float = math.inf,
+def changes(
+    findings: Sequence[Finding], folders: Sequence[str], options: Options, deadline: float = math.inf,
 ) -> Iterator[Union[str, Written]]:
-    """Yields the lines, with their ends, of a unified diff that puts the chosen offers into the sources.
+    """Puts the chosen offers into the files below the folders, each whole or not at all; yields what became of each.
 
-    What became of each file comes behind its lines. `findings` have to be all those of their files. Raises ProgramError if the
-    program that checks the files can't be run.
+    With `options.diff` it writes nothing, but yields the lines, with their ends, of a unified diff before that. `findings`
+    have to be all those of their files. Raises ProgramError if the program that checks the files can't be run.
     """
     for path, picked in _by_path(findings, options.advice).items():
-        try:
-            change = Change(path, reader.read(path), picked)
-            change.verify(findings, options, deadline)
-            yield from list(change.diff())
-            yield change.done()
-        except (OpenError, Unchangeable) as error:
-            yield Written(path, why=str(error))
-
-
-def write(
-    findings: Sequence[Finding], folders: Sequence[str], options: Options, deadline: float = math.inf,
-) -> Iterator[Written]:
-    """Puts the chosen offers into the files, each whole or not at all; yields what became of each, as `patch` does."""
-    for path, picked in _by_path(findings, options.advice).items():
+        lost: Sequence[str] = ()
         try:
             change = Change(path, read_below(path, folders), picked)
             change.verify(findings, options, deadline)
-            below = next(it for it in folders if names_below(path, it) is not None)
-            inside = below if names_below(path, below) else os.path.dirname(path) or os.curdir
-            yield change.done(replace_file(path, change.text.encode("utf-8"), inside, change.data))
-        except (OpenError, WriteError, Unchangeable) as error:
-            yield Written(path, why=str(error))
+            if options.diff:
+                yield from list(change.diff())
+            else:
+                folder = place_of(path, folders)[0] or os.curdir
+                lost = replace_file(path, change.text.encode("utf-8"), folder, change.data)
+            yield change.done(lost)
+        except (OpenError, WriteError, Unchangeable, OSError) as error:
+            yield Written(path, why=reason(error))
 
 
-def fix(findings: Sequence[Finding], run: Any, options: Options) -> Tuple[List[str], int]:
+def fix(findings: Sequence[Finding], folders: Sequence[str], options: Options, deadline: float) -> Tuple[List[str], int]:
     """Does what `rlt fix` does: writes, or with `options.diff` shows; returns lines without their ends, and the status.
 
-    The status is 0 if no finding is left, and 1 otherwise. `run` has the `folders` and the `deadline`. Raises ProgramError.
+    The status is 0 if no finding is left, and 1 otherwise. Raises ProgramError.
     """
     count = sum(it.state == NEW for it in findings)
-    reader = FolderReader(tuple(run.folders))
-    made: Iterator[Union[str, Written]] = iter(write(findings, reader.folders, options, run.deadline))
-    every = list(patch(findings, reader, options, run.deadline) if options.diff else made)
-    reader.close()
+    every = list(changes(findings, folders, options, deadline))
     done = [it for it in every if isinstance(it, Written)]
     fixed, better = sum(it.fixed for it in done), sum(it.better for it in done)
-    lines: List[str] = []
-    for it in done:
-        said = [f"{it.fixed} fixed"] * (it.fixed > 0) + [f"{it.better} better, still a finding"] * (it.better > 0)
-        lines.append(f"{it.path}: " + (f"left as it is: {it.why}" if it.why else ", ".join(said)))
-        lines += [f"{it.path}: {lost}" for lost in it.lost]
+    status = 1 if count > fixed else 0
     if options.diff:
         for it in done:
             if it.why and sys.stderr is not None:
                 print(visible(f"rlt: {it.path}: left as it is: {it.why}"), file=sys.stderr)
-        return [it.rstrip("\n") for it in every if isinstance(it, str)], 1 if count > fixed else 0
-    parts = [f"{fixed} fixed"] + ([f"{better} better, still a finding"] if better else [])
-    parts += [f"{count - fixed - better} left"] if count > fixed + better else []
-    lines.append(f"{counted(count, 'finding')}: " + ", ".join(parts) if count else "no findings")
-    return list(map(visible, lines)), 1 if count > fixed else 0
+        return [it.rstrip("\n") for it in every if isinstance(it, str)], status
+    lines: List[str] = []
+    for it in done:
+        lines.append(f"{it.path}: " + (f"left as it is: {it.why}" if it.why else _counts(it.fixed, it.better)))
+        lines += [f"{it.path}: {lost}" for lost in it.lost]
+    left = f", {count - fixed - better} left" if count > fixed + better else ""
+    lines.append(f"{counted(count, 'finding')}: {_counts(fixed, better, True)}{left}" if count else "no findings")
+    return list(map(visible, lines)), status
+
+
+def _counts(fixed: int, better: int, always: bool = False) -> str:
+    """How many findings were fixed and made better; those that were fixed even if there are none, with `always`."""
+    parts = [f"{fixed} fixed"] * (always or fixed > 0) + [f"{better} better, still a finding"] * (better > 0)
+    return ", ".join(parts)

@@ -9,23 +9,24 @@ from __future__ import annotations
 import re
 from dataclasses import dataclass, field, replace
 from difflib import SequenceMatcher
+from functools import reduce
 from itertools import combinations
-from typing import Any, Dict, Iterable, Iterator, List, Mapping, Optional, Sequence, Tuple
+from operator import or_
+from typing import Any, Dict, Iterable, Iterator, List, Mapping, NamedTuple, Optional, Sequence, Tuple
 
 from ..base.model import Span, Text
+from ..engine.ask import LETTERS, letters
 
 NO_BOUND = 1 << 40
 CHARS, GUARD, ROW, CHOICE, REPEAT, GROUP = "chars", "guard", "row", "choice", "repeat", "group"
 MOST_DEPTH, MOST_PROBES, MOST_MATCHED = 100, 150, 1_000_000
-FLAGS: Tuple[Tuple[str, int], ...] = (("a", 256), ("i", 2), ("m", 8), ("s", 16), ("u", 32), ("x", 64), ("L", 4))
 
 
 class Unreadable(Exception):
     """Raised if a pattern can't be read or written; the message says why in a clause."""
 
 
-@dataclass(frozen=True)
-class Facts:
+class Facts(NamedTuple):
     """What is known of a node: `nullable` (it can match the empty text if its guards hold), the number and name of each
     capturing group in it, whether a guard is in it, all its letters, the letters with which a match can begin, its size.
     """
@@ -93,6 +94,11 @@ class Node:
 EMPTY = Node(ROW)
 
 
+def union(masks: Iterable[int]) -> int:
+    """Returns the mask of all letters of the masks."""
+    return reduce(or_, masks, 0)
+
+
 def chars(mask: int) -> Node:
     """Returns a new set."""
     return Node(CHARS, mask=mask)
@@ -115,10 +121,7 @@ def choice(branches: Iterable[Node]) -> Node:
     for it in branches:
         flat += [part for part in (it.items if it.kind == CHOICE else (it,)) if part not in flat]
     if len(flat) > 1 and all(it.kind == CHARS for it in flat):
-        mask = 0
-        for it in flat:
-            mask |= it.mask
-        return chars(mask)
+        return chars(union(it.mask for it in flat))
     return flat[0] if len(flat) == 1 else Node(CHOICE, tuple(flat))
 
 
@@ -131,7 +134,8 @@ def repeat(least: int, most: int, greedy: bool, body: Node) -> Node:
 
 def again(node: Node, body: Node, **bounds: Any) -> Node:
     """Returns the repeat `node` with another body; `bounds` are other values of least, most and greedy."""
-    return repeat(bounds.get("least", node.least), bounds.get("most", node.most), bounds.get("greedy", node.greedy), body)
+    bounds = {"least": node.least, "most": node.most, "greedy": node.greedy, **bounds}
+    return repeat(bounds["least"], bounds["most"], bounds["greedy"], body)
 
 
 def optional(body: Node, greedy: bool = True) -> Node:
@@ -187,33 +191,30 @@ def positions(node: Node, path: Tuple[int, ...] = ()) -> Iterator[Tuple[Tuple[in
 
 # Letters
 
-
 MEMBER = re.compile(r"\\(?:x[0-9a-fA-F]{2}|u[0-9a-fA-F]{4}|U[0-9a-fA-F]{8}|[0-7]{1,3}|[\s\S])|[\s\S]")
 CLASS = re.compile(r"\[\^?\]?(?:\\[\s\S]|[^\]\\])*\]")
 ESCAPE = re.compile(r"\\(?:x[0-9a-fA-F]{2}|u[0-9a-fA-F]{4}|U[0-9a-fA-F]{8}|0[0-7]{0,2}|[1-7][0-7]{2}|[\s\S])")
 OPENING = re.compile(r"\((?:\?(?:P<[^>]*>|[aiLmsux]*(?:-[imsx]+)?:|[aiLmsux]+\)|#[^)]*\)))?")
 QUANTIFIER = re.compile(r"(?:[*+?]|\{\d+\}|\{\d*,\d*\})\??")
-LAYOUT = re.compile(r"\(\?#[^)]*\)")
-BLANKS = re.compile(r"(?:[ \t\n\r\v\f]|#[^\n]*)+")
+TOKEN = "|".join((ESCAPE.pattern, CLASS.pattern, OPENING.pattern, QUANTIFIER.pattern, r"[\s\S]"))
+LAYOUT, BLANKS = r"\(\?#[^)]*\)", r"(?:[ \t\n\r\v\f]|#[^\n]*)+"
 FRONT = re.compile(r"(?:\(\?[aiLmsux]+\)(?:\s*(?=\(\?[aiLmsux]+\)))?)*")
 SCOPED = re.compile(r"\(\?(?=[a-zL-]*[a-zL])[aiLmsux]*(?:-[imsx]+)?:")
 ONE = re.compile(rf"(?:{ESCAPE.pattern}|{CLASS.pattern}|[^\\\[()|*+?])\Z")
 IN_CLASS, OUTSIDE = "\\]^-[&~|", ".^$*+?{}[]|()\\"
 PLAIN = {"t": 9, "n": 10, "v": 11, "f": 12, "r": 13, "a": 7, "b": 8}
+NAMED = {code: "\\" + letter for letter, code in PLAIN.items() if code > 8}
 CATEGORIES = "wdsWDS"
 HINTED = 4
 
 
 def members(inside: str) -> List[Tuple[str, Optional[Tuple[int, int]]]]:
     r"""Returns the members of a class, as written, each with its first and last code; a category such as `\d` has none."""
-    parts, found, at = MEMBER.findall(inside), [], 0
-    while at < len(parts):
-        if at + 2 < len(parts) and parts[at + 1] == "-":
-            found.append(("".join(parts[at:at + 3]), _range_of(parts[at], parts[at + 2])))
-            at += 3
-        else:
-            found.append((parts[at], _range_of(parts[at], parts[at])))
-            at += 1
+    parts, found = MEMBER.findall(inside), []
+    while parts:
+        size = 3 if len(parts) > 2 and parts[1] == "-" else 1
+        found.append(("".join(parts[:size]), _range_of(parts[0], parts[size - 1])))
+        del parts[:size]
     return found
 
 
@@ -238,15 +239,20 @@ def code_of(part: str) -> Optional[int]:
 
 def escape(code: int, special: str, is_bytes: bool) -> str:
     """Returns how a pattern writes a character; those of `special` come after a backslash."""
-    plain = {9: "\\t", 10: "\\n", 11: "\\v", 12: "\\f", 13: "\\r"}
     letter = chr(code)
-    if code in plain:
-        return plain[code]
+    if code in NAMED:
+        return NAMED[code]
     if code < 32 or 127 <= code <= 160 or is_bytes and code > 126:
         return f"\\x{code:02x}"
     if not letter.isprintable():
         return f"\\u{code:04x}" if code <= 0xFFFF else f"\\U{code:08x}"
     return "\\" + letter if letter in special else letter
+
+
+def _range(low: int, high: int, is_bytes: bool) -> str:
+    """How a class writes the codes from `low` to `high`."""
+    sign = "-" if high - low > 1 else ""
+    return sign.join(escape(it, IN_CLASS, is_bytes) for it in ((low, high) if low < high else (low,)))
 
 
 def _hyphen_last(inside: str) -> str:
@@ -256,23 +262,23 @@ def _hyphen_last(inside: str) -> str:
     return inside[:at] + inside[at + 2:] + "-" if alone and not inside[:at].endswith("\\") else inside
 
 
+@dataclass
 class Alphabet:
     r"""The letters of a pattern, among them those of `\w`, `\d`, `\s` and of its ranges, and how sets are written.
 
-    `samples` has a character of each letter. `pieces` are ranges of codes, each with its mask, that classes are written with;
-    `known` has the classes of the pattern as they are written there.
+    `samples` has a character of each letter, and `flags` are those of the whole pattern. `pieces` are ranges of codes, each
+    with its mask, that classes are written with; `known` has the classes of the pattern as they are written there.
     """
 
-    def __init__(self, samples: str, flags: int, is_bytes: bool) -> None:
-        """Takes a character of each letter, and the flags of the whole pattern."""
-        self.samples, self.flags, self.is_bytes = samples, flags, is_bytes
-        self.full = (1 << len(samples)) - 1
-        self.special = OUTSIDE + (" #" if flags & re.VERBOSE else "")
-        self.pieces: List[Tuple[int, int, int]] = []
-        self.categories: Dict[str, int] = {}
-        self.newline = 0
-        self.known: Dict[int, str] = {}
-        self._shown: Dict[int, Optional[str]] = {}
+    samples: str
+    flags: int
+    is_bytes: bool
+    full: int
+    newline: int
+    pieces: Sequence[Tuple[int, int, int]]
+    categories: Mapping[str, int]
+    known: Mapping[int, str]
+    _shown: Dict[int, Optional[str]] = field(default_factory=dict)
 
     def of(self, mask: int) -> str:
         """Returns the samples of the letters of a mask."""
@@ -286,12 +292,14 @@ class Alphabet:
         """Returns a short text for the mask, like those in the pattern if there are some; None if none is found."""
         if mask not in self._shown:
             dot = self.full if self.flags & re.DOTALL else self.full & ~self.newline
+            special = OUTSIDE + (" #" if self.flags & re.VERBOSE else "")
             fixed = [r"[^\s\S]"] if not mask else ["."] if mask == dot else [r"[\s\S]"] if mask == self.full else []
             fixed += [self.known[mask]] if mask in self.known else []
             fixed += ["\\" + it for it, its in self.categories.items() if its == mask]
-            fixed += [escape(low, self.special, self.is_bytes) for low, high, it in self.pieces if it == mask and low == high]
+            fixed += [escape(low, special, self.is_bytes) for low, high, it in self.pieces if it == mask and low == high]
             alike = list(self._alike(mask))
-            every = fixed or [*alike, *self._classes(mask)]
+            signs = (("", mask), ("^", self.full & ~mask))
+            every = fixed or [*alike, *(f"[{it}{_hyphen_last(its)}]" for it, part in signs for its in self._insides(part))]
             self._shown[mask] = min(every, key=lambda it: len(it) - HINTED * (it in alike)) if every else None
         return self._shown[mask]
 
@@ -306,26 +314,17 @@ class Alphabet:
             elif text.startswith("[^"):
                 yield "[^" + (_hyphen_last(text[2:-1] + less) if text[-2:-1] != "-" else less + text[2:-1]) + "]"
             elif text.startswith("["):
-                kept = [it for it, its in members(text[1:-1]) if self.mask_of(it, its) & ~mask == 0]
-                if 0 < len(kept) < len(text) and self._mask_of_all(kept) == mask and kept[0] != "^":
-                    yield "[" + "".join(kept) + "]"
+                kept = [it for it in members(text[1:-1]) if self.mask_of(*it) & ~mask == 0]
+                if kept and union(self.mask_of(*it) for it in kept) == mask and kept[0][0] != "^":
+                    yield "[" + "".join(it for it, _ in kept) + "]"
 
     def mask_of(self, text: str, codes: Optional[Tuple[int, int]]) -> int:
         """Returns the mask of a member of a class; all letters if that isn't known."""
         if codes is None:
             return self.categories.get(text[1:], self.full)
         inside = [it for it in self.pieces if codes[0] <= it[0] and it[1] <= codes[1]]
-        mask = 0
-        for it in inside:
-            mask |= it[2]
-        return mask if inside and sum(high - low + 1 for low, high, _ in inside) == codes[1] - codes[0] + 1 else self.full
-
-    def _mask_of_all(self, texts: Sequence[str]) -> int:
-        """The mask of a class with these members."""
-        mask = 0
-        for text, codes in (one for it in texts for one in members(it)):
-            mask |= self.mask_of(text, codes)
-        return mask
+        is_whole = sum(high - low + 1 for low, high, _ in inside) == codes[1] - codes[0] + 1
+        return union(mask for _, _, mask in inside) if is_whole else self.full
 
     def _cover(self, mask: int) -> Optional[str]:
         """The inside of a class with just this mask, made of ranges alone; None if there is none."""
@@ -338,33 +337,18 @@ class Alphabet:
                     found[-1] = found[-1][0], high
                 else:
                     found.append((low, high))
-        return None if rest else "".join(self.range(*it) for it in found)
-
-    def range(self, low: int, high: int) -> str:
-        """Returns how a class writes the codes from `low` to `high`."""
-        if high - low < 2:
-            return "".join(escape(it, IN_CLASS, self.is_bytes) for it in range(low, high + 1))
-        return escape(low, IN_CLASS, self.is_bytes) + "-" + escape(high, IN_CLASS, self.is_bytes)
+        return None if rest else "".join(_range(low, high, self.is_bytes) for low, high in found)
 
     def _insides(self, mask: int) -> Iterator[str]:
         """Yields insides of a class with this mask, made of at most two categories and of ranges; none for the mask 0."""
         inner = [it for it, its in self.categories.items() if its and its & ~mask == 0]
         for taken in (it for count in range(3) for it in combinations(inner, count)):
-            rest = mask
-            for it in taken:
-                rest &= ~self.categories[it]
-            ranges = self._cover(rest)
+            ranges = self._cover(mask & ~union(self.categories[it] for it in taken))
             if ranges or ranges is not None and taken:
                 yield "".join("\\" + it for it in taken) + ranges
 
-    def _classes(self, mask: int) -> Iterator[str]:
-        """Yields classes with this mask."""
-        for sign, part in (("", mask), ("^", self.full & ~mask)):
-            yield from (f"[{sign}{_hyphen_last(it)}]" for it in self._insides(part))
-
 
 # Reading
-
 
 @dataclass(frozen=True)
 class Pattern:
@@ -387,11 +371,6 @@ class Pattern:
         return text.encode("latin-1") if self.is_bytes else text
 
 
-def flag_letters(flags: int) -> str:
-    """Returns flags of `re` as letters of a question."""
-    return "".join(letter for letter, value in FLAGS if flags & value)
-
-
 def _pieces(text: str, verbose: bool) -> List[Tuple[int, int]]:
     """The ranges of codes that the classes and characters of a pattern are made of, cut so that none overlap; few or none."""
     found = {(10, 10)}
@@ -407,6 +386,12 @@ def _pieces(text: str, verbose: bool) -> List[Tuple[int, int]]:
     return pieces if len(pieces) <= MOST_PROBES else [(10, 10)]
 
 
+def front_of(text: str) -> str:
+    """Returns the flags for all of a pattern at its front, as `(?i)`."""
+    found = FRONT.match(text)
+    return found[0] if found else ""
+
+
 class Probe:
     """A question for the tree of a pattern; `text` is the pattern, decoded as Latin-1 if it is bytes.
 
@@ -416,21 +401,18 @@ class Probe:
 
     def __init__(self, text: str, flags: int, is_bytes: bool, is_short: bool = False) -> None:
         """Takes the pattern and the flags of its call; a short question has no ranges, for a pattern with many letters."""
-        found = FRONT.match(text)
-        self.text, self.is_bytes, self.front = text, is_bytes, found[0] if found else ""
-        letters = "".join(re.findall(r"\(\?([aiLmsux]+)\)", self.front))
-        self.call, self.flags = flags, flags | (256 if is_bytes else 0) | sum(value for it, value in FLAGS if it in letters)
+        self.text, self.is_bytes, self.front = text, is_bytes, front_of(text)
+        own = "".join(re.findall(r"\(\?([aiLmsux]+)\)", self.front))
+        self.call, self.flags = flags, flags | (256 if is_bytes else 0) | sum(it for it in LETTERS if LETTERS[it] in own)
         self.verbose = bool(self.flags & re.VERBOSE)
         self.pieces = [(10, 10)] if is_short else _pieces(text, self.verbose)
-        shown = Alphabet("", self.flags, is_bytes)
-        sets = [r"[\s\S]", r"\w", r"\d", r"\s", *(f"[{shown.range(low, high)}]" for low, high in self.pieces)]
+        sets = [r"[\s\S]", r"\w", r"\d", r"\s", *(f"[{_range(*it, is_bytes)}]" for it in self.pieces)]
         self.inserted = "(?:" + "|".join(sets) + "){0}"
 
     def question(self) -> Dict[str, Any]:
         """Returns the question."""
-        at = len(self.front)
-        pattern = self.front + self.inserted + self.text[at:]
-        return {"ask": "tree", "pattern": pattern, "flags": flag_letters(self.call), "bytes": self.is_bytes}
+        pattern = self.front + self.inserted + self.text[len(self.front):]
+        return {"ask": "tree", "pattern": pattern, "flags": letters(self.call) or "", "bytes": self.is_bytes}
 
     def read(self, answer: Mapping[str, Any]) -> Pattern:
         """Returns the pattern from the answer; raises Unreadable if it isn't one."""
@@ -465,30 +447,23 @@ class Probe:
 
     def alphabet(self, tree: Node, samples: str, probes: Sequence[int]) -> Alphabet:
         """Returns the alphabet, from a character of each letter and the masks of the sets of the probe."""
-        alphabet = Alphabet(samples, self.flags, self.is_bytes)
-        alphabet.full = probes[0]
+        full, categories = probes[0], {}
         for letter, mask in zip("wds", probes[1:4]):
-            alphabet.categories[letter] = mask
-            alphabet.categories[letter.upper()] = alphabet.full & ~mask
-        alphabet.pieces = [(low, high, mask) for (low, high), mask in zip(self.pieces, probes[4:])]
-        alphabet.newline = next(mask for low, high, mask in alphabet.pieces if low <= 10 <= high)
+            categories.update({letter: mask, letter.upper(): full & ~mask})
+        pieces = [(low, high, mask) for (low, high), mask in zip(self.pieces, probes[4:])]
+        newline = next(mask for low, high, mask in pieces if low <= 10 <= high)
+        known: Dict[int, str] = {}
         for _, it in positions(tree):
             if it.kind == CHARS and it.text:
-                alphabet.known.setdefault(it.mask, it.text)
-        return alphabet
+                known.setdefault(it.mask, it.text)
+        return Alphabet(samples, self.flags, self.is_bytes, full, newline, pieces, categories, known)
 
 
-def _mask(node: Mapping[str, Any]) -> int:
-    """The mask of a set in an answer."""
-    return sum({1 << it for it in node["letters"]})
-
-
-class _Reader:
+class _Reader(NamedTuple):
     """Makes nodes from those of an answer about the pattern `text`, in whose front `shift` characters were put."""
 
-    def __init__(self, text: str, shift: int) -> None:
-        """Takes the pattern, and how many characters its spans are too large by."""
-        self.text, self.shift = text, shift
+    text: str
+    shift: int
 
     def node(self, it: Mapping[str, Any], scoped: bool = False, depth: int = 0) -> Node:
         """Returns the node for one of the answer; in a group with flags of its own (`scoped`) it gets no text and no span."""
@@ -499,7 +474,8 @@ class _Reader:
         span = None if scoped else (start, end)
         if kind == "set":
             alone = ONE.match(text) is not None and not scoped
-            return Node(CHARS, mask=_mask(it), text=text if alone else "", span=span if alone else None)
+            mask = union(1 << letter for letter in it["letters"])
+            return Node(CHARS, mask=mask, text=text if alone else "", span=span if alone else None)
         if kind == "nothing":
             return EMPTY
         if kind in ("anchor", "boundary"):
@@ -537,7 +513,6 @@ class _Reader:
 
 
 # Writing
-
 
 def quantifier(node: Node) -> str:
     """Returns the text of a repeat's quantifier."""
@@ -587,21 +562,17 @@ def _in_parentheses(node: Node, pattern: Pattern, are_needed: bool) -> str:
 
 # Layout
 
-
 def tokens_of(pattern: str, verbose: bool) -> Tuple[List[str], List[str]]:
     """Returns the tokens of a pattern, and the layout (comments, blanks under VERBOSE) before each and after the last."""
     tokens: List[str] = []
-    gaps, at = [""], 0
-    while at < len(pattern):
-        found = LAYOUT.match(pattern, at) or (BLANKS.match(pattern, at) if verbose else None)
-        if found:
-            gaps[-1] += found[0]
+    gaps = [""]
+    layout = f"{LAYOUT}|{BLANKS}" if verbose else LAYOUT
+    for it in re.finditer(f"(?P<layout>{layout})|{TOKEN}", pattern):
+        if it["layout"]:
+            gaps[-1] += it[0]
         else:
-            forms = (ESCAPE, CLASS, OPENING, QUANTIFIER, re.compile(r"[\s\S]"))
-            found = next(it for it in (one.match(pattern, at) for one in forms) if it)
-            tokens.append(found[0])
+            tokens.append(it[0])
             gaps.append("")
-        at = found.end()
     return tokens, gaps
 
 

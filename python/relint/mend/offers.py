@@ -16,7 +16,7 @@ from ..base.model import Finding, Offer, Site, Text
 from ..base.safe import OpenError, read_below
 from ..base.words import quoted
 from ..engine.ask import Asker
-from ..trials.trial import Trial
+from ..trials.tries import Trials
 from .edits import Unchangeable, literal_of
 from .search import EVERY_METHOD, Cure, How, Search
 
@@ -25,7 +25,7 @@ PYTHON = re.compile(r"^(?:requires-python|python_requires)[ \t]*=[ \t]*[\"']?[ \
 READ = "the same, but your code reads the pattern itself"
 HARD = "it finds the same"
 SEES = ("truth", "spans", "groups")
-_trial = Trial()
+_trial = Trials()
 
 
 def how_of(finding: Finding, max_degree: int) -> How:
@@ -37,10 +37,10 @@ def how_of(finding: Finding, max_degree: int) -> How:
     uses, call = finding.uses, finding.entry.call or "compile"
     if uses is None or uses.lost or not uses.uses:
         methods = EVERY_METHOD if call == "compile" else frozenset([call])
-        return How(methods, flags, call == "compile", "groups", uses is not None and uses.is_read, finding.mode, max_degree)
+        return How(methods, flags, call == "compile", "groups", finding.mode, max_degree)
     sees = max((it.sees for it in uses.uses), key=SEES.index)
     position = any(it.position or it.repeated for it in uses.uses)
-    return How(frozenset(it.method for it in uses.uses), flags, position, sees, uses.is_read, finding.mode, max_degree)
+    return How(frozenset(it.method for it in uses.uses), flags, position, sees, finding.mode, max_degree)
 
 
 def offers(finding: Finding, run: Any) -> Tuple[Offer, ...]:
@@ -78,7 +78,7 @@ def _python_of(root: str) -> Tuple[int, int]:
 def cures_of(pattern: Text, how: How, asker: Asker, until: float, suggestion: Optional[Text] = None) -> List[Cure]:
     """Returns the cures of a pattern, the best first, and at most one of each kind."""
     try:
-        cures = Search(pattern, replace(how, is_read=False), asker, _trial, until).run(suggestion)
+        cures = Search(pattern, how, asker, _trial, until).run(suggestion)
     except RecursionError:
         return []
     if any(not it.differs and not it.hard_to_read and it.top <= how.max_degree and it.is_proved for it in cures):

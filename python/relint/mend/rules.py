@@ -9,11 +9,12 @@ A *loop* is a repeat without a bound, a *run* is a repeated set, and *blanks* ar
 from __future__ import annotations
 
 from dataclasses import dataclass
+from itertools import accumulate
 from typing import Callable, Iterator, List, NamedTuple, Optional, Sequence, Tuple
 
 from .nodes import (
     CHARS, CHOICE, EMPTY, GROUP, NO_BOUND, REPEAT, ROW, Alphabet, Node, again, chars, choice, group, guard, made, optional,
-    plus, positions, put, repeat, row, star, with_child,
+    plus, positions, put, repeat, row, star, union, with_child,
 )
 
 Path = Tuple[int, ...]
@@ -45,7 +46,6 @@ class Run(NamedTuple):
 
 
 # Helpers
-
 
 def core(node: Node) -> Node:
     """Returns the node without the capturing groups directly around it."""
@@ -131,6 +131,10 @@ def last_and_first(node: Node) -> Iterator[Tuple[int, Node, Node, Node, Node]]:
 
 # Loops
 
+def as_often(loop: Node, whole: Node) -> Node:
+    """Returns what stands for at least one round of a loop, or that optional if the loop may have none."""
+    return optional(whole, loop.greedy) if loop.least == 0 else whole
+
 
 def close(node: Node, alphabet: Alphabet) -> Iterator[Node]:
     """A loop whose body isn't just a set: one round, or just as many as it needs."""
@@ -189,8 +193,7 @@ def unroll(node: Node, alphabet: Alphabet) -> Iterator[Node]:
     parts = items_of(node.body) if node.endless and node.least < 2 and not node.facts.groups else ()
     if len(parts) > 1 and parts[-1].kind == REPEAT and (parts[-1].least, parts[-1].most) == (0, 1):
         head, middle = row(parts[:-1]), parts[-1].body
-        whole = row([head, star(row([middle, head])), optional(middle)])
-        yield optional(whole, node.greedy) if node.least == 0 else whole
+        yield as_often(node, row([head, star(row([middle, head])), optional(middle)]))
 
 
 def one_piece(node: Node, alphabet: Alphabet) -> Iterator[Node]:
@@ -222,12 +225,8 @@ def rotate(node: Node, alphabet: Alphabet) -> Iterator[Node]:
     seam = repeat(first.least + last.least, most, True, chars(first.mask))
     whole = row([*parts[:-1], star(row([seam, *parts[1:-1]]), node.greedy), parts[-1]])
     if node.facts.groups:
-        rounds = row([optional(whole), node.body])
-        yield optional(rounds, node.greedy) if node.least == 0 else rounds
-        whole = row([optional(whole, node.greedy) if node.least == 0 else whole, *dead_groups(node)])
-        yield whole
-    else:
-        yield optional(whole, node.greedy) if node.least == 0 else whole
+        yield as_often(node, row([optional(whole), node.body]))
+    yield row([as_often(node, whole), *dead_groups(node)])
 
 
 def last_round(node: Node, alphabet: Alphabet) -> Iterator[Node]:
@@ -241,9 +240,7 @@ def last_round(node: Node, alphabet: Alphabet) -> Iterator[Node]:
     parts = items_of(plain)
     bodies = [plain] + [put_parts(plain, at, at + 1, again(it, it.body, least=1)) for at, it in enumerate(parts)
                         if len(parts) > 1 and it.kind == REPEAT and it.least == 0]
-    for body in bodies:
-        rounds = row([star(body, node.greedy), node.body])
-        yield optional(rounds, node.greedy) if node.least == 0 else rounds
+    yield from (as_often(node, row([star(it, node.greedy), node.body])) for it in bodies)
 
 
 def fallback(node: Node, alphabet: Alphabet) -> Iterator[Node]:
@@ -273,9 +270,7 @@ def _escapes(node: Node) -> Iterator[Tuple[int, int, int, List[Node]]]:
     others = [it for it in node.items if it.kind == CHARS]
     for sign in sorted({it.items[0].mask for it in rows if it.items[0].kind == CHARS}) if len(others) == 1 else ():
         twos = [it for it in rows if len(it.items) == 2 and it.items[0] == chars(sign) and it.items[1].kind == CHARS]
-        taken = 0
-        for it in twos:
-            taken |= it.items[1].mask
+        taken = union(it.items[1].mask for it in twos)
         if taken and others[0].mask & sign == sign:
             yield sign, taken, others[0].mask, [it for it in node.items if it is not others[0] and it not in twos]
 
@@ -303,15 +298,10 @@ def glued(node: Node, alphabet: Alphabet) -> Iterator[Node]:
         ends = [] if blanks is None else [blanks]
         later = star(row([head, *rest[1:]]), node.greedy)
         whole = row([*ends, *rest, later] if is_front else [*rest, later, *ends])
-        if node.facts.groups:
-            rounds = row([optional(whole, node.greedy), node.body])
-            yield optional(rounds, node.greedy) if node.least == 0 else rounds
-        else:
-            yield optional(whole, node.greedy) if node.least == 0 else whole
+        yield as_often(node, row([optional(whole, node.greedy), node.body]) if node.facts.groups else whole)
 
 
 # Choices
-
 
 def disjoint(node: Node, alphabet: Alphabet) -> Iterator[Node]:
     """A run among branches: the run without the characters with which another branch begins."""
@@ -357,7 +347,6 @@ def _either(one: Node, other: Node) -> Node:
 
 
 # Parts one after another
-
 
 def absorb(node: Node, alphabet: Alphabet) -> Iterator[Node]:
     """Two neighbouring endless runs, one with all characters of the other: the other is as short as it may be, or left out."""
@@ -440,11 +429,6 @@ def exclude(node: Node, alphabet: Alphabet) -> Iterator[Node]:
         for place, part, own, its in ((at, left, one, other), (at + 1, right, other, one)):
             if own.endless and own.mask & ~its.mask:
                 yield put_parts(node, place, place + 1, with_run(part, own.least, own.most, own.mask & ~its.mask))
-
-
-def _stopped(run: Node, sign: int) -> Node:
-    """An endless run without the characters of `sign`, after its least ones."""
-    return row([repeat(run.least, run.least, True, run.body), star(chars(run.body.mask & ~sign), run.greedy)])
 
 
 def after_last(node: Node, alphabet: Alphabet) -> Iterator[Node]:
@@ -603,7 +587,6 @@ def _ahead(node: Node, at: int) -> List[int]:
 
 # Rules for a whole tree
 
-
 def endless_runs(tree: Node) -> Iterator[Tuple[Path, Node]]:
     """Yields each endless run after the path to it, from left to right."""
     return ((path, it) for path, it in positions(tree) if it.is_run and it.endless)
@@ -620,14 +603,11 @@ def signs(tree: Node, path: Path = ()) -> Iterator[Tuple[Path, int]]:
             yield from signs(it, (*path, at))
 
 
-def _is_letter(mask: int, alphabet: Alphabet) -> bool:
-    """Whether a mask is one letter or digit: a part of a word, and not what parts two fields."""
-    return alphabet.is_one(mask) and alphabet.of(mask)[:1].isalnum()
-
-
 def exclude_far(tree: Node, alphabet: Alphabet) -> Iterator[Node]:
     """An endless run, and a character elsewhere that it may take: the run without it, or with it only at an end."""
-    every = list(dict.fromkeys(mask for _, mask in signs(tree) if not _is_letter(mask, alphabet)))[:MOST_SIGNS]
+    # (a letter or digit is a part of a word, and parts no fields)
+    parting = (it for _, it in signs(tree) if not alphabet.is_one(it) or not alphabet.of(it)[:1].isalnum())
+    every = list(dict.fromkeys(parting))[:MOST_SIGNS]
     for path, run in endless_runs(tree):
         for sign in every:
             common, own = run.body.mask & sign, run.body.mask & ~sign
@@ -650,7 +630,8 @@ def stop_all(tree: Node, alphabet: Alphabet) -> Iterator[Node]:
     for path, run in endless_runs(tree):
         sign = _behind(tree, path)
         if run.body.mask & sign and run.body.mask & ~sign and run.least < 3:
-            every.append((path, _stopped(run, sign), run.greedy))
+            rest = star(chars(run.body.mask & ~sign), run.greedy)
+            every.append((path, row([repeat(run.least, run.least, True, run.body), rest]), run.greedy))
     lazy, eager = ([it for it in every if it[2] == is_greedy] for is_greedy in (False, True))
     for some in (every, every[:-1], every[1:], every[:-2], every[2:], every[1:-1], lazy, eager):
         new = tree
@@ -663,9 +644,7 @@ def stop_all(tree: Node, alphabet: Alphabet) -> Iterator[Node]:
 
 def _behind(tree: Node, path: Path) -> int:
     """The mask of the single character that has to come right after the node at the end of a path; 0 if there is none."""
-    nodes = [tree]
-    for at in path:
-        nodes.append(nodes[-1].items[at])
+    nodes = list(accumulate(path, lambda node, at: node.items[at], initial=tree))
     for node, at in zip(nodes[-2::-1], reversed(path)):
         if node.kind == ROW and at + 1 < len(node.items):
             return (fixed(node.items[at + 1]) or [0])[0]

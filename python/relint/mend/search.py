@@ -14,13 +14,15 @@ import re
 import time
 from dataclasses import dataclass, replace
 from difflib import SequenceMatcher
+from functools import lru_cache
 from typing import Any, Dict, FrozenSet, Iterator, List, Mapping, NamedTuple, Optional, Sequence, Set, Tuple
 
 from ..base.model import MODES, Text, Verdict
 from ..base.words import quoted
-from ..engine.ask import Asker, as_text, letters
+from ..engine.ask import Asker, as_text, letters, pair
 from ..engine.engine import ReportError, read_text
-from ..trials.trial import GROUPS_TOO, OTHER, SPANS_TOO, TEXTS_ALONE, Trial
+from ..trials.trial import GROUPS_TOO, OTHER, SPANS_TOO, TEXTS_ALONE
+from ..trials.tries import Trials
 from . import nodes
 from .nodes import (
     CHARS, CHOICE, EMPTY, GUARD, REPEAT, ROW, Alphabet, Node, Pattern, Unreadable, again, chars, guard, made, positions, put,
@@ -45,15 +47,14 @@ EXPONENTIAL, MISSED = 1_000_000, 9
 class How:
     """How code uses a pattern: by which methods, whether with a position, and what it sees ("truth", "spans" or "groups").
 
-    `is_read` says that it also reads the pattern or its flags. `worst` is the mode in which its class is to get lower, and
-    `max_degree` the highest degree that is no finding. `has_atomic` says that it needs a Python that knows atomic groups.
+    `worst` is the mode in which its class is to get lower, and `max_degree` the highest degree that is no finding.
+    `has_atomic` says that it needs a Python that knows atomic groups.
     """
 
     methods: FrozenSet[str] = EVERY_METHOD
     flags: int = 0
     position: bool = True
     sees: str = "groups"
-    is_read: bool = False
     worst: str = "search"
     max_degree: int = 2
     has_atomic: bool = False
@@ -68,7 +69,7 @@ class How:
         return self.sees == "truth" and not self.position and not self.methods & REPEATED
 
     def goal(self) -> str:
-        """Returns what a fix has to be in trials, as one of the words of `Trial`."""
+        """Returns what a fix has to be in trials, as one of the words of `trial`."""
         return TEXTS_ALONE if self.only_truth() else GROUPS_TOO if self.sees == "groups" else SPANS_TOO
 
     def calls(self) -> List[str]:
@@ -140,7 +141,7 @@ class Search:
     second is hard to read; "advice" is one that it may notice.
     """
 
-    def __init__(self, pattern: Text, how: How, asker: Asker, trial: Trial, deadline: float = float("inf")) -> None:
+    def __init__(self, pattern: Text, how: How, asker: Asker, trial: Trials, deadline: float = float("inf")) -> None:
         """Takes the pattern, its uses, who is asked, and the time of `time.monotonic` at which to end."""
         self.original, self.how, self.asker, self.trial, self.deadline = pattern, how, asker, trial, deadline
         self.tries = self.trees = self.advised = self.kept_at = 0
@@ -151,10 +152,7 @@ class Search:
         self.pattern: Pattern
 
     def run(self, suggestion: Optional[Text] = None) -> List[Cure]:
-        """Searches, and returns the cures found, the best first; `suggestion` is tried first.
-
-        Raises ProgramError if relint-ask can't be run.
-        """
+        """Searches, and returns the cures found, the best first; `suggestion` is tried first. Raises ProgramError."""
         verdicts = self.asker.verdicts([(self.original, self.how.flags, it) for it in self.how.modes()])
         if verdicts[0] is None or verdicts[0].rank() < 2 or len(self.original) > LONGEST:
             return []
@@ -167,7 +165,7 @@ class Search:
         guilty = self.guilty([self.pattern.tree])[0]
         self.before = self.before[0], len(guilty), self.before[2]
         self.seen.update((text, self.pattern.text))
-        self.trial.begin(self.original, self.how.flags, self.how.calls(), Sampler(self.pattern, 7).texts(SIEVED))
+        self.begin(7, SIEVED)
         if suggestion is not None and isinstance(suggestion, type(self.original)):
             self.try_suggestion(as_text(suggestion))
         self.walk(text, MOST_STEPS + max(0, len(guilty) - 1))
@@ -207,7 +205,7 @@ class Search:
         if self.before[0] < EXPONENTIAL:
             return [[] for _ in trees]
         loops: List[Tuple[int, Path, Text]] = []
-        marks = nodes.flag_letters(self.pattern.flags & (2 | 8 | 16 | 256))
+        marks = letters(self.pattern.flags & (2 | 8 | 16 | 256))
         front = f"(?{marks})" if marks else ""
         for number, tree in enumerate(trees):
             for path, it in positions(tree):
@@ -268,12 +266,9 @@ class Search:
     # What is judged
 
     def followers(self, tree: Node, worth: Worth, steps: Tuple[str, ...]) -> List[Tuple[Proposal, Worth, str]]:
-        """Returns the proposals for a tree that match the same texts and are better, with their worth and kind.
-
-        If none can be a fix, some that are as good as the tree are returned too.
-        """
+        """Returns the better proposals for a tree, with worth and kind; if none can be a fix, some that are as good too."""
         every = self.proposals(tree)
-        kinds = dict(zip((it.text for it in every), self.kinds([self.pattern.encoded(it.text) for it in every])[0]))
+        kinds = dict(zip((it.text for it in every), self.kinds([it.text for it in every])[0]))
         every = [it for it in every if kinds[it.text] != OTHER]
         goal = self.how.goal()
         found: List[Tuple[Proposal, Worth, str]] = []
@@ -310,8 +305,13 @@ class Search:
                 for (it, _, verdict), ranks, paths in zip(first, others, guilty)
                 if all(rank <= was for rank, was in zip(ranks, self.before[2]))]
 
-    def kinds(self, patterns: Sequence[Text]) -> Tuple[List[str], int]:
-        """Returns what trials say of patterns, as `Trial` does, within the time that is left."""
+    def begin(self, seed: int, count: int) -> None:
+        """Has so many texts for trials made from the pattern."""
+        fitting = Sampler(self.pattern, seed).texts(count)
+        self.trial.begin(self.pattern.text, self.pattern.is_bytes, self.how.flags, self.how.calls(), fitting)
+
+    def kinds(self, patterns: Sequence[str]) -> Tuple[List[str], int]:
+        """Returns what trials say of patterns, as `Trials` does, within the time that is left."""
         return self.trial.kinds(patterns, max(0.2, self.deadline - time.monotonic()))
 
     def far(self, text: str) -> int:
@@ -319,7 +319,7 @@ class Search:
         return distance(self.pattern.text, text)
 
     def judged(self, it: Proposal, worth: Worth, verdict: Optional[Verdict], steps: Tuple[str, ...]) -> str:
-        """Compares a proposal with the pattern; returns what it is, as a word of `Trial`, or "" if it matches other texts.
+        """Compares a proposal with the pattern; returns what it is, as a word of `trial`, or "" if it matches other texts.
 
         Its cure is kept if its class is lower; `verdict` is None if it is only a step.
         """
@@ -350,12 +350,9 @@ class Search:
             self.kept_at = self.tries
 
     def compared(self, text: str) -> Optional[Tuple[str, int]]:
-        """Returns None if it isn't proved that a pattern matches the same texts, else what differs, and its rank.
-
-        ("", 0) means that the code can't notice it.
-        """
+        """Returns what differs and its rank, ("", 0) if the code can't notice it; None unless the same texts are proved."""
         new = self.pattern.encoded(text)
-        same = [self.pair("compare", new, mode=mode) for mode in self.how.modes()]
+        same = [pair("compare", self.original, new, self.how.flags, mode=mode) for mode in self.how.modes()]
         needs = [] if self.how.only_truth() else self.needs(new, self.how.position, self.how.sees == "groups")
         answers = self.asker.ask_all([*same, *(it for need in needs for it in need)])
         if not all(it.get("relation") == "equal" for it in answers[:len(same)]):
@@ -379,12 +376,6 @@ class Search:
         """Returns whether for each need one of its questions is answered by "same"."""
         return all(any(it.get("answer") == "same" for it in self.asker.ask_all(need)) for need in needs)
 
-    def pair(self, ask: str, new: Text, old: Optional[Text] = None, **more: Any) -> Dict[str, Any]:
-        """Returns a question about the pattern (or `old`) and a new one."""
-        said = {"ask": ask, "first": as_text(self.original if old is None else old), "second": as_text(new),
-                "flags": letters(self.how.flags) or "", **more}
-        return {**said, "bytes": True} if isinstance(new, bytes) else said
-
     def needs(self, new: Text, position: bool, groups: bool) -> List[List[Dict[str, Any]]]:
         """Returns what has to be the same for the code: for each need questions of which one "same" is enough."""
         methods = self.how.methods
@@ -392,8 +383,8 @@ class Search:
 
         def asked(mode: str, front: str = "", end: str = "") -> Dict[str, Any]:
             """A question about both patterns, each between an anchor and another one."""
-            both = [_between(it, front, end, self.pattern.verbose) if front else it for it in (self.original, new)]
-            return self.pair("spans", both[1], both[0], mode=mode, groups=groups)
+            one, other = (_between(it, front, end, self.pattern.verbose) if front else it for it in (self.original, new))
+            return pair("spans", one, other, self.how.flags, mode=mode, groups=groups)
 
         for method, other in (("fullmatch", "fullmatch"), ("match", "search")):
             if method in methods:
@@ -429,7 +420,7 @@ class Search:
         items = self.pattern.tree.items if self.pattern.tree.kind == ROW else ()
         places = [(at, word) for at in range(len(items)) for word in [word_behind(items, at)] if len(word) > 1]
         if places:
-            self.trial.begin(self.original, self.how.flags, self.how.calls(), Sampler(self.pattern, 3).texts(TRIED))
+            self.begin(3, TRIED)
         for some in [[it] for it in places] + [places] * (len(places) > 1):
             if time.monotonic() > self.deadline:
                 return
@@ -440,12 +431,11 @@ class Search:
             verdicts = [it for mode in self.how.modes() for it in self.classes([self.pattern.encoded(long)], mode)]
             top = max(map(_rank, verdicts))
             if top <= self.how.max_degree and verdicts[0] and self.compared(long) == ("", 0):
-                new = self.pattern.encoded(short)
-                kinds, count = self.kinds([new])
+                kinds, count = self.kinds([short])
                 if kinds[0] <= self.how.goal() and count > TRIED // 2:
                     differs = "" if self.how.has_atomic else "it finds the same, but relint can't judge a look-ahead"
-                    cure = Cure(new, verdicts[0], differs, 0, ("stop-at-word",), top=top, is_proved=False)
-                    self.best["checked"] = (0,), cure
+                    self.best["checked"] = (0,), Cure(self.pattern.encoded(short), verdicts[0], differs, 0, ("stop-at-word",),
+                                                      top=top, is_proved=False)
                     return
 
     def stopped(self, items: Sequence[Node], places: Sequence[Tuple[int, List[int]]], is_short: bool) -> str:
@@ -472,8 +462,8 @@ class Search:
         texts = [] if self.best else [self.pattern.encoded(it) for it in dict.fromkeys(self.narrower())][:BATCH]
         verdicts = self.classes(texts, self.how.worst)
         fine = [(it, its) for it, its in zip(texts, verdicts) if its and _rank(its) <= self.how.max_degree]
-        answers = self.asker.ask_all([self.pair("compare", it, mode=self.how.worst) for it, _ in fine])
-        for (new, verdict), answer in zip(fine, answers):
+        asked = [pair("compare", self.original, it, self.how.flags, mode=self.how.worst) for it, _ in fine]
+        for (new, verdict), answer in zip(fine, self.asker.ask_all(asked)):
             lost = _read(answer.get("first"))
             if lost is None or answer.get("second") is not None:
                 continue
@@ -505,8 +495,8 @@ class Search:
     def checked(self) -> List[Cure]:
         """Returns the cures, with the layout of the pattern, that a trial on more texts doesn't refute."""
         cures = [self.laid_out(self.best[it][1]) for it in ("same", "hard", "checked", "advice") if it in self.best]
-        self.trial.begin(self.original, self.how.flags, self.how.calls(), Sampler(self.pattern, 1).texts(TRIED))
-        kinds = self.kinds([it.pattern for it in cures])[0]
+        self.begin(1, TRIED)
+        kinds = self.kinds([as_text(it.pattern) for it in cures])[0]
         wanted = {0: self.how.goal(), 1: SPANS_TOO, 2: TEXTS_ALONE, 3: TEXTS_ALONE, MISSED: OTHER}
         return [it for it, kind in zip(cures, kinds) if kind <= wanted[it.rank] or it.rank == MISSED]
 
@@ -525,7 +515,7 @@ def read_pattern(pattern: Text, flags: int, asker: Asker) -> Pattern:
     answer: Mapping[str, Any] = {}
     for is_short in (False, True):
         probe = nodes.Probe(as_text(pattern), flags, isinstance(pattern, bytes), is_short)
-        answer = asker.ask_all([probe.question()])[0]
+        answer = asker.ask(probe.question())
         if answer.get("answer") == "tree":
             return probe.read(answer)
     raise Unreadable(str(answer.get("cause") or answer.get("message") or answer.get("answer")))
@@ -565,8 +555,7 @@ def _rank(verdict: Optional[Verdict]) -> int:
 def _between(pattern: Text, front: str, end: str, verbose: bool) -> Text:
     """A pattern between two anchors, with the flags at its front still there."""
     text = as_text(pattern)
-    found = nodes.FRONT.match(text)
-    at = found.end() if found else 0
+    at = len(nodes.front_of(text))
     whole = f"{text[:at]}{front}(?:{text[at:]}" + ("\n" if verbose else "") + f"){end}"
     return whole if isinstance(pattern, str) else whole.encode("latin-1")
 
@@ -592,19 +581,13 @@ def _spans(found: Any) -> Dict[int, Optional[Tuple[int, int]]]:
     return {int(number or 0): (int(low), int(high)) if low else None for number, low, high in FOUND.findall(str(found))}
 
 
-def _differing(answers: Sequence[Mapping[str, Any]]) -> List[Tuple[Text, Dict[int, Any], Dict[int, Any]]]:
-    """The texts on which two patterns differ, with what each of them finds."""
-    found = []
-    for it in answers:
-        text = _read(it.get("text")) if it.get("answer") == "differ" else None
-        if text is not None and it.get("empty") is not False:
-            found.append((text, _spans(it.get("first")), _spans(it.get("second"))))
-    return found
-
-
 def _differs(answers: Sequence[Mapping[str, Any]], numbers: Sequence[int]) -> str:
     """A clause that says which of these groups (0 is the whole match) is another one; "" if that isn't known."""
-    for text, first, second in _differing(answers):
+    for answer in answers:
+        text = _read(answer.get("text")) if answer.get("answer") == "differ" and answer.get("empty") is not False else None
+        if text is None:
+            continue
+        first, second = (_spans(answer.get(it)) for it in ("first", "second"))
         for number in numbers:
             one, other = first.get(number), second.get(number)
             if one == other:
@@ -635,7 +618,7 @@ class Sampler:
         self.pattern, self.random = pattern, random.Random(seed)
         self.left = MOST_PARTS
         self.words: List[str] = [""]
-        self.letters: Dict[int, str] = {}
+        self.samples = lru_cache(maxsize=None)(pattern.alphabet.of)
         for _, it in positions(pattern.tree):
             for one in it.items if it.kind == ROW else ():
                 if one.kind == CHARS and pattern.alphabet.is_one(one.mask):
@@ -648,9 +631,7 @@ class Sampler:
 
     def letter(self, mask: int) -> str:
         """Returns a character of a mask, or "" for the empty one."""
-        if mask not in self.letters:
-            self.letters[mask] = self.pattern.alphabet.of(mask)
-        samples = self.letters[mask]
+        samples = self.samples(mask)
         return samples[int(self.random.random() * len(samples))] if samples else ""
 
     def text(self, node: Node) -> str:

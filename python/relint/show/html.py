@@ -9,15 +9,17 @@ import difflib
 import hashlib
 import os
 from html import escape
+from itertools import groupby
 from typing import Dict, Iterator, List, Sequence, Tuple
 
 from ..base.model import ELSEWHERE, PROVED, Finding, Offer, Summary, Text
-from ..base.safe import escaped
+from ..base.safe import SERVER_COMMAND, escaped
 from ..base.words import counted, danger, offer_words, quoted, rule_of, rule_text, try_line, use_words
+from ..engine.ask import as_text
 from ..options import Options
 from .terminal import (
     LETTERS, MOST_LINES, class_of, counts, drawn, facts, is_shown, legend, letters_of, other_words, result, rows, signs_of,
-    took, why_words, worst_first,
+    took, unshown, why_words, worst_first,
 )
 
 HERE = os.path.dirname(os.path.realpath(__file__))
@@ -47,25 +49,15 @@ def _coloured(letter: str, shown: str) -> str:
 
 def _line(shown: str, signs: Dict[int, str]) -> str:
     """A source line as markup, with its parts in the colours of their letters."""
-    parts, at = [], 0
-    while at < len(shown):
-        end = at + 1
-        if at in signs:
-            while signs.get(end) == "~":
-                end += 1
-            parts.append(_coloured(signs[at], shown[at:end]))
-        else:
-            while end < len(shown) and end not in signs:
-                end += 1
-            parts.append(text(shown[at:end]))
-        at = end
-    return "".join(parts)
+    groups = groupby(range(len(shown)), lambda at: signs.get(at, ""))
+    parts = [(letter, "".join(shown[at] for at in places)) for letter, places in groups]
+    return "".join(_coloured(letter, part) if letter else text(part) for letter, part in parts)
 
 
 def _source(finding: Finding) -> Iterator[str]:
     """Yields the source lines of a finding and, if its parts aren't in them, its pattern."""
     letters = letters_of(drawn(finding))
-    signs = signs_of(finding, letters)
+    signs = signs_of(finding, letters, "")
     lines = [f'<span class="number">{number:>5}  </span>{_line(shown.rstrip(), signs.get(number, {}))}'
              for number, shown in finding.lines[:MOST_LINES]]
     left = len(finding.lines) - len(lines)
@@ -73,9 +65,8 @@ def _source(finding: Finding) -> Iterator[str]:
     if lines:
         yield f'<pre tabindex="0" role="region" aria-label="Source"><code>{chr(10).join(lines)}</code></pre>'
     if finding.site is not None and (not signs or finding.known != PROVED):
-        pattern = finding.site.pattern.decode("latin-1") if isinstance(finding.site.pattern, bytes) else finding.site.pattern
-        marked = {at: "~" for start, end in letters for at in range(start + 1, end)}
-        marked.update({start: letter for (start, _), letter in letters.items()})
+        pattern = as_text(finding.pattern)
+        marked = {at: letter for (start, end), letter in letters.items() for at in range(start, end)}
         yield f"<h3>The pattern</h3><pre tabindex=\"0\"><code>{_line(pattern[:MOST_CODES], marked)}</code></pre>"
 
 
@@ -89,10 +80,10 @@ def _ways(finding: Finding) -> Iterator[str]:
         return
     lines = []
     for name, row in rows(reading):
-        cells = row if name == "text" else "".join(
+        cells = text(row) if name == "text" else "".join(
             _coloured(it, it) if it in LETTERS else '<span class="bar">|</span>' if it == "|" else it for it in row)
-        lines.append(f'<span class="number">{name:<8}</span>{text(cells) if name == "text" else cells}')
-    note = legend(reading, finding.site.pattern if finding.site else "")
+        lines.append(f'<span class="number">{name:<8}</span>{cells}')
+    note = legend(reading, finding.pattern)
     yield f'<pre tabindex="0" role="region" aria-label="The ways"><code>{chr(10).join(lines)}</code></pre>'
     yield f'<p class="muted">{text(note)}</p>' if note else ""
 
@@ -120,7 +111,7 @@ def card(finding: Finding, summary: Summary, number: int) -> str:
     entry, site, uses = finding.entry, finding.site, finding.uses
     place = f"{entry.path}:{entry.place.line}:{entry.place.column}" if entry.place else entry.path
     kinds = [class_of(finding).split()[0]] + ([ELSEWHERE] if finding.known != PROVED else [])
-    notes = [*(site.notes if site else ()), *([finding.reason] if finding.reason else [])]
+    notes = [*(site.said if site else ()), *([finding.reason] if finding.reason else [])]
     held = [f"{it.name} ({it.path}:{it.line})" for it in (site.holders if site else ())]
     notes += [f"from {', '.join(held)}"] if held else []
     if uses is not None and uses.uses and not uses.lost:
@@ -166,7 +157,12 @@ def _rules(findings: Sequence[Finding]) -> Iterator[str]:
 
 
 def lines(findings: Sequence[Finding], summary: Summary, options: Options) -> Iterator[str]:
-    """Yields the lines of the page."""
+    """Yields the lines of the page; no build server finds a command in them, though a reader sees and copies it as it is."""
+    return (SERVER_COMMAND.sub("#&#35;", it) for it in _lines(findings, summary, options))
+
+
+def _lines(findings: Sequence[Finding], summary: Summary, options: Options) -> Iterator[str]:
+    """The lines of the page."""
     style, script = _own("page.css"), _own("page.js")
     policy = "; ".join(("default-src 'none'", f"style-src {_pinned(style)}", f"script-src {_pinned(script)}",
                         "base-uri 'none'", "form-action 'none'"))
@@ -183,7 +179,9 @@ def lines(findings: Sequence[Finding], summary: Summary, options: Options) -> It
     yield '</ul><ul class="facts">'
     yield from (f"<li>{text(it)}</li>" for it in facts(findings, summary, options))
     yield "</ul></header><main>"
-    yield from (card(it, summary, number) for number, it in enumerate(shown[:options.most], 1))
+    cards = enumerate(summary.clock.within(shown[:options.most]), 1)
+    yield from (card(it, summary, number) for number, it in cards)
+    yield from (f'<p class="danger">{text(it)}</p>' for it in unshown(summary))
     yield from _others(rest)
     yield from _rules(shown)
     yield '</main><p id="status" class="muted" role="status"></p>'

@@ -3,14 +3,15 @@ from __future__ import annotations
 
 import json
 import time
+from contextlib import closing
 from dataclasses import replace
-from typing import Any, Dict, Iterator, List, Mapping, Optional, Tuple
+from typing import Any, Dict, Iterator, Mapping
 
 from ..base import rate
-from ..base.model import MODES, NEW, OTHER, WARNED, Entry, Finding, Literal, Site, Summary, Text, Verdict
+from ..base.model import MODES, NEW, OTHER, WARNED, Entry, Finding, Literal, Site, Summary, Text
 from ..base.safe import visible, write
 from ..base.words import CAUSES, FLAGS, LIMITS, class_word, danger, outcome, quoted
-from ..engine.ask import Asker, question, verdict_of
+from ..engine.ask import Asker, pair, question, verdict_of
 from ..engine.engine import ReportError, read_text
 from ..engine.run import Run
 from ..files import Chosen
@@ -47,34 +48,24 @@ def _mode(options: Options) -> str:
 
 
 def pattern(options: Options) -> int:
-    """Does `rlt pattern`: says the class of a pattern in each mode, why, a text and a fix; returns the status.
-
-    Raises OptionsError, ProgramError and Unwritten.
-    """
+    """Does `rlt pattern`, and returns the status. Raises OptionsError, ProgramError and Unwritten."""
     text, flags, deadline = _text(options, 0), _flags(options), time.monotonic() + options.seconds
-    asker = Asker(options, deadline)
-    try:
+    with closing(Asker(options, deadline)) as asker, closing(offers):
         answers = asker.ask_all([question("class", text, flags, mode=it, pairs=options.max_pairs) for it in MODES])
         finding = _finding(text, flags, dict(zip(MODES, answers)), options)
         run = Run(options, Chosen(".", (".",)), None, asker, deadline, steps_a_second=rate.kept())
         found = growth.explained(growth.grown([finding], run), run)[0]
         if finding.state != OTHER:
             found = replace(found, offers=offers.offers(found, run))
-    finally:
-        offers.close()
-        asker.close()
     summary = Summary(patterns=1, steps_a_second=run.steps_a_second)
-    lines = _pattern_lines(found, summary, options)
-    write("".join(f"{it}\n" for it in lines) if options.format == "terminal" else _json(found, summary))
+    lines = _pattern_lines(found, summary, options) if options.format == "terminal" else [_dumped(added(found, summary))]
+    write("".join(f"{it}\n" for it in lines))
     late = any(it.get("answer") == "late" for it in answers)
     return 3 if late else 1 if finding.state == NEW else 0
 
 
 def _finding(text: Text, flags: int, answers: Mapping[str, Mapping[str, Any]], options: Options) -> Finding:
-    """The finding of a pattern that is in no source, from the answers about its classes by their modes.
-
-    Raises OptionsError for a pattern that `re` refuses too.
-    """
+    """The finding of a pattern in no source, from the answers in each mode; raises OptionsError if `re` refuses it too."""
     mode = _mode(options)
     literal = quoted(text)
     site = Site(text, flags, (Literal(literal, 0, len(literal)),))
@@ -101,9 +92,9 @@ def _pattern_lines(finding: Finding, summary: Summary, options: Options) -> Iter
     yield from body_lines(finding, paint)
 
 
-def _json(finding: Finding, summary: Summary) -> str:
-    """What is said of a pattern, as a line of JSON."""
-    return json.dumps(added(finding, summary), separators=(",", ":"), sort_keys=True) + "\n"
+def _dumped(said: Mapping[str, Any]) -> str:
+    """What is said as a line of JSON."""
+    return json.dumps(said, separators=(",", ":"), sort_keys=True)
 
 
 def compare(options: Options) -> int:
@@ -113,34 +104,18 @@ def compare(options: Options) -> int:
     ProgramError and Unwritten.
     """
     old, new, mode, flags = _text(options, 0), _text(options, 1), _mode(options), _flags(options)
-    asker = Asker(options, time.monotonic() + options.seconds)
-    both = {"second": question("class", new, flags)["pattern"], "mode": mode}
-    try:
-        classes = [question("class", it, flags, mode=mode, pairs=options.max_pairs) for it in (old, new)]
-        pairs = []
-        for ask in ("compare", "spans"):
-            asked = question(ask, old, flags, **both)
-            asked["first"] = asked.pop("pattern")
-            pairs.append(asked)
-        answers = asker.ask_all([*classes, *pairs])
-    finally:
-        asker.close()
+    classes = [question("class", it, flags, mode=mode, pairs=options.max_pairs) for it in (old, new)]
+    with closing(Asker(options, time.monotonic() + options.seconds)) as asker:
+        answers = asker.ask_all([*classes, *(pair(ask, old, new, flags, mode=mode) for ask in ("compare", "spans"))])
     said = {"old": _class(answers[0]), "new": _class(answers[1]), "mode": mode, **_texts(answers[2]), **_spans(answers[3])}
-    if options.format == "json":
-        write(json.dumps(said, separators=(",", ":"), sort_keys=True) + "\n")
-    else:
-        write("".join(f"{name + ':':<7} {it}\n" for name, it in said.items() if it))
-    verdicts = [verdict_of(it) for it in answers[:2]]
-    return _status(answers, verdicts)
-
-
-def _status(answers: List[Mapping[str, Any]], verdicts: List[Optional[Verdict]]) -> int:
-    """The status of a comparison."""
+    lines = [f"{name + ':':<7} {it}" for name, it in said.items() if it] if options.format == "terminal" else [_dumped(said)]
+    write("".join(f"{it}\n" for it in lines))
+    before, after = map(verdict_of, answers[:2])
     relation, spans = answers[2].get("relation"), answers[3].get("answer")
-    is_worse = None not in verdicts and verdicts[1].rank() > max(0, verdicts[0].rank())  # type: ignore[union-attr]
+    is_worse = before is not None and after is not None and after.rank() > max(0, before.rank())
     if relation in RELATIONS and relation != "equal" or spans == "differ" or is_worse:
         return 1
-    return 0 if relation == "equal" and spans == "same" and None not in verdicts else 3
+    return 0 if relation == "equal" and spans == "same" and before is not None and after is not None else 3
 
 
 def _class(answer: Mapping[str, Any]) -> str:
@@ -181,5 +156,5 @@ def _spans(answer: Mapping[str, Any]) -> Dict[str, str]:
         return {"spans": "both find the same spans and groups (proved)"}
     if answer.get("answer") != "differ":
         return {"spans": _unknown(answer)}
-    found: Tuple[str, str] = (visible(str(answer.get("first"))), visible(str(answer.get("second"))))
-    return {"spans": f"in {_literal(answer.get('text'))}, OLD finds {found[0]} and NEW finds {found[1]}"}
+    first, second = (visible(str(answer.get(it))) for it in ("first", "second"))
+    return {"spans": f"in {_literal(answer.get('text'))}, OLD finds {first} and NEW finds {second}"}

@@ -9,7 +9,7 @@ import hashlib
 import json
 import os
 import re
-from typing import Any, Dict, Iterable, Iterator, List, Optional, Sequence, Tuple
+from typing import Any, Dict, Iterable, Iterator, Optional, Sequence, Tuple
 from urllib.parse import quote
 
 from ..base.model import (
@@ -27,7 +27,7 @@ from .terminal import (
 
 NAME, SCHEMA = "relint", "https://json.schemastore.org/sarif-2.1.0.json"
 STOPS = "Whoever can send such a text can stop this program (ReDoS, CWE-1333)."
-SEVERITIES = {"error": "7.5", "warning": "5.0"}
+SEVERITIES, PRINTS = {"error": "7.5", "warning": "5.0"}, "relintPattern/v2"
 
 
 def _dumped(value: Any) -> str:
@@ -48,7 +48,7 @@ def _message(finding: Finding, summary: Summary) -> str:
     why = why_words(finding)
     parts += [f"why: {why}"] if why else []
     parts += [f"note: {visible(finding.reason)}"] if finding.reason else []
-    parts += [f"note: {visible(it)}" for it in (finding.site.notes if finding.site else ())]
+    parts += [f"note: {visible(it)}" for it in (finding.site.said if finding.site else ())]
     parts.append(STOPS)
     parts += [f"{it.kind}: put {visible(it.literal)} in its place    {offer_words(it)}" for it in finding.offers]
     parts += [] if finding.offers else ["fix: none was found; rlt explain fixing shows how such patterns are rewritten"]
@@ -58,33 +58,29 @@ def _message(finding: Finding, summary: Summary) -> str:
 
 
 def _stand_in(finding: Finding) -> str:
-    """Says in brackets that words stand for parts of a pattern that aren't known, if they do."""
+    """Says in brackets that words stand for parts of a pattern that aren't known, or that it is in a test."""
     site = finding.site
-    return f" ({'; '.join(visible(it) for it in site.notes)})" if site is not None and site.stands_in else ""
+    is_said = site is not None and (site.stands_in or site.in_tests)
+    return f" ({'; '.join(visible(it) for it in site.said)})" if site is not None and is_said else ""
 
 
-class Prints:
-    """Makes the fingerprints of a report: of pattern, flags, mode and function, and the number among equal ones."""
-
-    def __init__(self) -> None:
-        """Begins a report."""
-        self._met: Dict[str, int] = {}
-
-    def of(self, finding: Finding) -> str:
-        """Returns the fingerprint of the next finding, 64 hexadecimal digits."""
-        key, entry = key_of(finding), finding.entry
-        name = json.dumps(key or (entry.path, entry.call, entry.kind, entry.cause))
-        self._met[name] = self._met.get(name, 0) + 1
-        return hashlib.sha256(f"{name} {self._met[name]}".encode("ascii")).hexdigest()
+def _prints(findings: Iterable[Finding]) -> Iterator[Tuple[Finding, str]]:
+    """Yields each finding with its fingerprint: of pattern, flags, mode and function, and the number among equal ones."""
+    met: Dict[str, int] = {}
+    for it in findings:
+        name = json.dumps(key_of(it) or (it.entry.path, it.entry.call, it.entry.kind, it.entry.cause))
+        met[name] = met.get(name, 0) + 1
+        yield it, hashlib.sha256(f"{name} {met[name]}".encode("ascii")).hexdigest()
 
 
 # ---- lines
 
 def concise(findings: Sequence[Finding], summary: Summary, options: Options) -> Iterator[str]:
     """Yields a line for each finding, and the last lines."""
-    for it in worst_first(findings):
+    for it in summary.clock.within(worst_first(findings)):
         yield f"{_place(it)}: {rule_of(it)} {danger(it, summary.steps_a_second)}{_stand_in(it)}"
-    yield from (f"{_place(it)}: {rule_of(it)} {other_words(it)}" for it in others(findings, options))
+    rest = summary.clock.within(others(findings, options))
+    yield from (f"{_place(it)}: {rule_of(it)} {other_words(it)}" for it in rest)
     yield result(findings)
     yield from map(line, facts(findings, summary, options))
 
@@ -97,9 +93,9 @@ def _place(finding: Finding) -> str:
 
 def github(findings: Sequence[Finding], summary: Summary, options: Options) -> Iterator[str]:
     """Yields an annotation for each finding, and for each accept that the change adds; then the last lines."""
-    for it in worst_first(findings):
+    for it in summary.clock.within(worst_first(findings)):
         yield annotation("error" if _level(it) == "error" else "warning", it, _message(it, summary))
-    for it in others(findings, options):
+    for it in summary.clock.within(others(findings, options)):
         yield annotation("notice", it, other_words(it))
     for path, at, why in summary.added_accepts:
         yield command("notice", [("file", path), ("line", str(at))], accepts(why, options))
@@ -132,15 +128,15 @@ def _data(text: str) -> str:
 
 def gitlab(findings: Sequence[Finding], summary: Summary, options: Options) -> Iterator[str]:
     """Yields a Code Quality report, on one line; what the last lines say are issues of the severity info."""
-    prints, issues = Prints(), []
+    issues = []
     severities = {"error": "critical", "warning": "major", "note": "info"}
-    for it in worst_first(findings):
-        fixes = [f"; {offer.kind}: {visible(offer.literal)}" for offer in it.offers[:1]]
-        words = f"{danger(it, summary.steps_a_second)}{_stand_in(it)}{''.join(fixes)}"
-        issues.append({**_issue(rule_of(it), words, prints.of(it), (it.entry.path, it.place.line)),
-                       "severity": severities[_level(it)], "content": {"body": _message(it, summary)}})
-    for it in others(findings, options):
-        issues.append(_issue(rule_of(it), other_words(it), prints.of(it), (it.entry.path, it.place.line)))
+    for it, print_of_it in _prints(summary.clock.within([*worst_first(findings), *others(findings, options)])):
+        words, more = other_words(it), {}
+        if is_shown(it):
+            fixes = [f"; {offer.kind}: {visible(offer.literal)}" for offer in it.offers[:1]]
+            words = f"{danger(it, summary.steps_a_second)}{_stand_in(it)}{''.join(fixes)}"
+            more = {"severity": severities[_level(it)], "content": {"body": _message(it, summary)}}
+        issues.append({**_issue(rule_of(it), words, print_of_it, (it.entry.path, it.place.line)), **more})
     accepted = [(path, at, accepts(why, options)) for path, at, why in summary.added_accepts]
     place = options.config or (findings[0].entry.path if findings else "pyproject.toml")
     for path, at, words in [*accepted, *((place, 1, it) for it in facts(findings, summary, options))]:
@@ -163,14 +159,15 @@ def sarif(findings: Sequence[Finding], summary: Summary, options: Options) -> It
     shown = [it for it in findings if is_shown(it) or it.state in (ACCEPTED, IGNORED, KNOWN) or is_open(it, options)]
     codes = sorted({rule_of(it) for it in shown})
     first = {rule_of(it): it for it in reversed(shown)}
-    prints = Prints()
-    results = [_result(it, summary, options, prints, codes.index(rule_of(it))) for it in shown]
+    results = [{**_result(it, summary, options, codes.index(rule_of(it))), "partialFingerprints": {PRINTS: mark}}
+               for it, mark in _prints(summary.clock.within(shown))]
     driver = {"name": NAME, "rules": [_rule(first[it]) for it in codes], "version": summary.version or "0",
               "semanticVersion": summary.version or "0.0.0"}
     notes = [{"level": "note", "message": {"text": it}} for it in facts(findings, summary, options)]
     run: Dict[str, Any] = {
         "columnKind": "unicodeCodePoints", "results": results, "tool": {"driver": driver},
-        "invocations": [{"executionSuccessful": not summary.late, "toolExecutionNotifications": notes}],
+        "invocations": [{"executionSuccessful": not (summary.late or summary.clock.left),
+                         "toolExecutionNotifications": notes}],
     }
     yield _dumped({"$schema": SCHEMA, "runs": [run], "version": "2.1.0"})
 
@@ -219,14 +216,13 @@ def region(finding: Finding) -> Optional[Dict[str, int]]:
     return found
 
 
-def _result(finding: Finding, summary: Summary, options: Options, prints: Prints, index: int) -> Dict[str, Any]:
-    """The result for an entry; `index` is that of its rule."""
+def _result(finding: Finding, summary: Summary, options: Options, index: int) -> Dict[str, Any]:
+    """The result for an entry but for its fingerprint; `index` is that of its rule."""
     where, at = {"uri": _uri(finding.entry.path)}, region(finding)
     found: Dict[str, Any] = {
         "level": _level(finding), "ruleId": rule_of(finding), "ruleIndex": index,
         "locations": [{"physicalLocation": {"artifactLocation": where, **({"region": at} if at else {})}}],
         "message": {"text": _message(finding, summary) if finding.state != OTHER else outcome(finding)},
-        "partialFingerprints": {"relintPattern/v2": prints.of(finding)},
     }
     if finding.state in (ACCEPTED, IGNORED):
         kind = "external" if finding.state == ACCEPTED else "inSource"
@@ -251,67 +247,39 @@ def json_report(findings: Sequence[Finding], summary: Summary, options: Options)
 
     `entries` are those that the program read in the sources itself, and `beyond` the others. All numbers are whole.
     """
-    rows_of_all = [(it, {**entry_json(it.entry), "rlt": added(it, summary)}) for it in findings]
-    kinds = [(it.verdict.is_finding(options.max_degree) if it.verdict else False, it.entry.kind) for it in findings
-             if it.known == PROVED]
+    rows_of_all = [(it, {**entry_json(it.entry), "rlt": added(it, summary)}) for it in summary.clock.within(findings)]
+    proved = [it for it in findings if it.known == PROVED]
     whole = {
         "entries": [row for it, row in rows_of_all if it.known == PROVED],
         "beyond": [row for it, row in rows_of_all if it.known != PROVED],
-        "findings": sum(is_finding for is_finding, _ in kinds),
-        "refused": sum(kind not in ("degree", "exponential", "undecided") for _, kind in kinds),
-        "undecided": sum(kind == "undecided" for _, kind in kinds), "version": 2,
-        "rlt": {"version": summary.version, "files": summary.files, "patterns": summary.patterns, "late": summary.late,
-                "milliseconds": round(summary.seconds * 1000), "facts": facts(findings, summary, options)},
+        "findings": sum(it.verdict is not None and it.verdict.is_finding(options.max_degree) for it in proved),
+        "refused": sum(it.entry.kind not in ("degree", "exponential", "undecided") for it in proved),
+        "undecided": sum(it.entry.kind == "undecided" for it in proved), "version": 2,
+        "rlt": {"version": summary.version, "files": summary.files, "patterns": summary.patterns,
+                "late": summary.late or summary.clock.left > 0, "milliseconds": round(summary.seconds * 1000),
+                "facts": facts(findings, summary, options)},
     }
     yield _dumped(whole)
 
 
 def entry_json(entry: Entry) -> Dict[str, Any]:
     """Returns an entry as values for JSON, with the keys of the program's own report."""
-    found: Dict[str, Any] = {"path": entry.path, "kind": entry.kind, "call": entry.call, "cause": entry.cause}
-    found.update(_place_json(entry.place) if entry.place else {})
-    found.update(_verdict_json(entry.verdict) if entry.verdict else {})
-    if entry.fault is not None:
-        found["fault"] = _place_json(entry.fault)
+    found: Dict[str, Any] = _plain(entry)
+    found.update({**found.pop("place", {}), **found.pop("verdict", {})})
     if entry.suggest is not None:
         found["suggest"] = quoted(entry.suggest)
-    if entry.suggest is not None or entry.dropped or entry.merged or entry.passed:
-        found.update(dropped=_places(entry.dropped), merged=_places(entry.merged), passed=_places(entry.passed))
-    if entry.becomes is not None:
-        found["becomes"] = _verdict_json(entry.becomes)
-    return {key: value for key, value in found.items() if value is not None}
+    elif not (entry.dropped or entry.merged or entry.passed):
+        found = {key: it for key, it in found.items() if key not in ("dropped", "merged", "passed")}
+    return found
 
 
-def _place_json(place: Place) -> Dict[str, int]:
-    """A place as values for JSON."""
-    return {"line": place.line, "column": place.column}
-
-
-def _places(places: Iterable[Place]) -> List[Dict[str, int]]:
-    """Places as values for JSON."""
-    return [_place_json(it) for it in places]
-
-
-def _family_json(family: Family) -> Dict[str, List[str]]:
-    """A family as values for JSON."""
-    return {"heads": list(map(quoted, family.heads)), "pumps": list(map(quoted, family.pumps))}
-
-
-def _verdict_json(verdict: Verdict) -> Dict[str, Any]:
-    """A class as values for JSON, with the bounds that laws give."""
-    found: Dict[str, Any] = {"kind": verdict.kind, "degree": verdict.degree, "limit": verdict.limit, "over": verdict.over,
-                             "family": _family_json(verdict.family) if verdict.family else None}
-    found.update({"at-least": _bound_json(verdict.at_least), "at-most": _bound_json(verdict.at_most)})
-    return {key: value for key, value in found.items() if value is not None}
-
-
-def _bound_json(bound: Optional[Bound]) -> Optional[Dict[str, Any]]:
-    """A bound as values for JSON, or None."""
-    if bound is None:
-        return None
-    found = {"kind": bound.kind, "degree": bound.degree, "law": bound.law,
-             "family": _family_json(bound.family) if bound.family else None}
-    return {key: value for key, value in found.items() if value is not None}
+def _plain(value: Any) -> Any:
+    """A part of an entry as values for JSON; what isn't known is left out."""
+    if isinstance(value, Family):
+        return {"heads": list(map(quoted, value.heads)), "pumps": list(map(quoted, value.pumps))}
+    if isinstance(value, (Entry, Place, Verdict, Bound)):
+        return {key.replace("_", "-"): _plain(it) for key, it in vars(value).items() if it is not None}
+    return list(map(_plain, value)) if isinstance(value, tuple) else value
 
 
 def added(finding: Finding, summary: Summary) -> Dict[str, Any]:
@@ -329,7 +297,7 @@ def added(finding: Finding, summary: Summary) -> Dict[str, Any]:
     if finding.state == UNUSED or uses is not None and not uses.lost:
         found["uses"] = [{"method": it.method, "path": it.path, "line": it.line} for it in (uses.uses if uses else ())]
     if site is not None:
-        found.update(pattern=quoted(site.pattern), function=site.function, taker=site.taker, notes=list(site.notes),
+        found.update(pattern=quoted(site.pattern), function=site.function, taker=site.taker, notes=list(site.said),
                      flags=flag_letters(site.flags) if site.flags is not None else None)
     if finding.growth is not None:
         found.update(length=finding.growth.length, steps=str(finding.growth.steps))

@@ -16,6 +16,7 @@ from ..base.safe import SERVER_COMMAND, is_seen, line, visible
 from ..base.words import (
     CAUSES, class_word, counted, danger, growth_words, listed, offer_words, outcome, quoted, rule_of, try_line, use_words,
 )
+from ..engine.ask import as_text
 from ..options import Options
 
 MOST_LINES, MOST_NAMED, MOST_COLUMNS, MOST_PATTERN, TAB = 8, 5, 30, 200, 4
@@ -52,16 +53,8 @@ def _shown(character: str) -> str:
     return SHOWN.get(character) or (character if is_seen(character) and not unicodedata.combining(character) else UNSEEN)
 
 
-def _characters(text: Text) -> str:
-    """A text, or the characters with the codes of bytes."""
-    return text.decode("latin-1") if isinstance(text, bytes) else text
-
-
 def drawn(finding: Finding) -> Optional[Reading]:
-    """Returns the reading that is drawn: that of an exponential pattern, or the last one that two loops of it share out.
-
-    Returns None if there is none, or if it is too long to be drawn.
-    """
+    """Returns the reading to draw: of an exponential pattern, or the last one of two loops; None if it is too long."""
     readings = finding.why.readings if finding.why else ()
     inner = [it for it in readings if it.parts is not None or None not in it.loops]
     found = (inner or list(readings))[-1:]
@@ -89,10 +82,7 @@ def letters_of(reading: Optional[Reading]) -> Letters:
 
 
 def bar_of(reading: Reading) -> Optional[Span]:
-    """Returns the loop whose new rounds are drawn as bars: the outermost whose rounds differ, or else the outermost.
-
-    A loop over one part isn't drawn, since its rounds are the characters. Returns None if there is no other loop.
-    """
+    """Returns the loop whose new rounds are bars: the outermost over several parts, if possible one whose rounds differ."""
     starts = {it[0] for it in _places(reading)}
     rounds: Dict[Span, List[Tuple[bool, ...]]] = {}
     for loop in {it.at for way in reading.ways for step in way for it in step.took if it.side == "round" and it.at}:
@@ -110,7 +100,7 @@ def _begins(step: Step, loop: Optional[Span]) -> bool:
 
 def rows(reading: Reading) -> List[Tuple[str, str]]:
     """Returns the rows of a reading, each with its name and its text: the text, then the ways, of a degree at most three."""
-    letters, text = letters_of(reading), _characters(reading.text)
+    letters, text = letters_of(reading), as_text(reading.text)
     if not reading.loops:
         bar, last = bar_of(reading), reading.ways[0][-1]
         ways = [[Step(last.place), *way] for way in reading.ways]
@@ -145,7 +135,7 @@ def why_words(finding: Finding) -> str:
         return ""
     if not readings[0].loops:
         return f"{_copied(readings[0].text)} can be read in two ways, so {_factor(finding, readings[0])}"
-    pattern = _characters(finding.site.pattern if finding.site else "")
+    pattern = as_text(finding.pattern)
     spans = list(dict.fromkeys(it for reading in readings for it in reading.loops if it is not None))
     loops = [visible(pattern[start:end])[:60] for start, end in sorted(spans)]
     is_search = any(None in it.loops for it in readings)
@@ -153,7 +143,7 @@ def why_words(finding: Finding) -> str:
     taken = f"is shared out between {listed(loops)}" if len(loops) > 1 else f"is taken by {listed(loops) or 'the pattern'}"
     others = sum(None not in it.loops for it in readings) - 1
     more = f" ({counted(others, 'more such text')})" if others > 0 else ""
-    letters = set(_characters(text))
+    letters = set(as_text(text))
     run = RUNS.get("".join(letters)) or _copied(text[:1] if len(letters) == 1 else text)
     return f"a run of {run} {taken}" + (", from each place at which the search may begin" if is_search else "") + more
 
@@ -180,7 +170,7 @@ def legend(reading: Reading, pattern: Text) -> str:
     """Returns what the bars or dots of a reading mean; "" if it has none."""
     bar = bar_of(reading) if not reading.loops else None
     if bar is not None:
-        return f"a bar is a new round of {visible(_characters(pattern[bar[0]:bar[1]]))[:60]}"
+        return f"a bar is a new round of {visible(as_text(pattern[bar[0]:bar[1]]))[:60]}"
     return "a dot is a character that the search skips" if any(it is None for it in reading.loops) else ""
 
 
@@ -226,12 +216,15 @@ def _is_there(literal: str, start: int, starts: Dict[int, int], texts: Dict[int,
     return number in texts and (is_behind or texts[number].startswith(first, start - starts[number]))
 
 
-def signs_of(finding: Finding, letters: Letters) -> Dict[int, Dict[int, str]]:
-    """Returns the signs below each line of the source, by the positions in it: letters, and `~` for the rest of a part."""
+def signs_of(finding: Finding, letters: Letters, rest: str = "~") -> Dict[int, Dict[int, str]]:
+    """Returns the signs below each line of the source, by the positions in it: letters, and the rest of each part.
+
+    That is shown by `rest` or, if it is "", by the letter too.
+    """
     found: Dict[int, Dict[int, str]] = {}
     starts, texts = line_starts(finding), dict(finding.lines)
     offsets = finding.site.offsets if finding.site else ()
-    for at, sign in _signs(finding, letters).items():
+    for at, sign in _signs(finding, letters, rest).items():
         if at < len(offsets):
             number = max((it for it in starts if starts[it] <= offsets[at]), default=0)
             if number in texts and offsets[at] - starts[number] < len(texts[number]):
@@ -239,13 +232,13 @@ def signs_of(finding: Finding, letters: Letters) -> Dict[int, Dict[int, str]]:
     return found
 
 
-def _signs(finding: Finding, letters: Letters) -> Dict[int, str]:
+def _signs(finding: Finding, letters: Letters, rest: str = "~") -> Dict[int, str]:
     """The signs below the characters of the pattern; a part of one character has its quantifier marked too."""
-    pattern = _characters(finding.site.pattern if finding.site else "")
+    pattern = as_text(finding.pattern)
     signs: Dict[int, str] = {}
     for (start, end), letter in letters.items():
         end += end - start == 1 and pattern[end:end + 1] in ("*", "+", "?", "{")
-        signs.update({at: "~" for at in range(start + 1, end)})
+        signs.update({at: rest or letter for at in range(start + 1, end)})
         signs[start] = letter
     return signs
 
@@ -274,7 +267,7 @@ def source_lines(finding: Finding, letters: Letters, paint: Painter) -> Iterator
 
 def _pattern_lines(finding: Finding, letters: Letters, paint: Painter) -> Iterator[str]:
     """Yields the pattern, with signs below it."""
-    pattern = _characters(finding.site.pattern if finding.site else "")
+    pattern = as_text(finding.pattern)
     printed = [visible(it) for it in pattern[:MOST_PATTERN]]
     yield paint("dim", "pattern: ") + line("".join(printed)) + (" .." if len(pattern) > MOST_PATTERN else "")
     signs = {at: it for at, it in _signs(finding, letters).items() if at < MOST_PATTERN}
@@ -297,12 +290,6 @@ def class_of(finding: Finding) -> str:
     return class_word(finding.verdict).split(" (")[0] if finding.verdict is not None else "seen to hang"
 
 
-def finding_lines(finding: Finding, summary: Summary, paint: Painter) -> Iterator[str]:
-    """Yields all that is said of a finding, without a blank line behind it."""
-    yield head(finding, danger(finding, summary.steps_a_second) + ("; a warning" if finding.state == WARNED else ""), paint)
-    yield from body_lines(finding, paint)
-
-
 def body_lines(finding: Finding, paint: Painter) -> Iterator[str]:
     """Yields what is said of a finding below its first line."""
     reading = drawn(finding)
@@ -311,7 +298,7 @@ def body_lines(finding: Finding, paint: Painter) -> Iterator[str]:
     for name, text in _details(finding):
         yield f"  {paint('dim', f'{name}:'.ljust(5))} {paint('good', text) if name in ('fix', 'better') else text}"
         if name == "why" and reading is not None:
-            note = legend(reading, finding.site.pattern if finding.site else "")
+            note = legend(reading, finding.pattern)
             said = {"way 1": paint("dim", f"     {note}")} if note else {}
             yield from (f"          {row:<7} {taken}{said.get(row, '')}".rstrip() for row, taken in rows(reading))
 
@@ -322,7 +309,7 @@ def _details(finding: Finding) -> Iterator[Tuple[str, str]]:
     if site is not None and finding.known == ELSEWHERE or finding.seen is not None:
         held = [f"{visible(it.name)} ({visible(it.path)}:{it.line})" for it in (site.holders if site else ())]
         yield from [("from", ", ".join(held))] if held else []
-        yield from (("note", visible(it)) for it in (site.notes if site else ()))
+    yield from (("note", visible(it)) for it in (site.said if site else ()))
     if finding.reason:
         yield "note", visible(finding.reason)
     if finding.uses is not None and finding.uses.uses and not finding.uses.lost and finding.entry.call == "compile":
@@ -421,7 +408,13 @@ def facts(findings: Sequence[Finding], summary: Summary, options: Options) -> Li
         lines.append("with --strict, what isn't judged or looked at fails too")
     if summary.late:
         lines.append(f"time ran out after {options.seconds:,} seconds, so not all was judged: --seconds N gives more")
-    return lines
+    return lines + unshown(summary)
+
+
+def unshown(summary: Summary) -> List[str]:
+    """Returns the line on the entries for which no time was left."""
+    left = summary.clock.left
+    return [f"time ran out before {counted(left, 'entry', 'entries')} could be shown: --seconds N gives more"] if left else []
 
 
 def accepts(reason: str, options: Options) -> str:
@@ -482,14 +475,12 @@ def lines(findings: Sequence[Finding], summary: Summary, options: Options) -> It
     """Yields the lines for a terminal. Colours are used if `options.color` is "always"."""
     paint = painter(options)
     shown = worst_first(findings)
-    for at, it in enumerate(shown):
-        if at < options.most:
-            yield from finding_lines(it, summary, paint)
-            yield ""
-        else:
-            yield head(it, danger(it, summary.steps_a_second), paint)
+    for at, it in enumerate(summary.clock.within(shown)):
+        is_whole, words = at < options.most, danger(it, summary.steps_a_second)
+        yield head(it, words + ("; a warning" if is_whole and it.state == WARNED else ""), paint)
+        yield from [*body_lines(it, paint), ""] if is_whole else []
     rest = others(findings, options)
-    yield from (head(it, other_words(it), paint) for it in rest)
+    yield from (head(it, other_words(it), paint) for it in summary.clock.within(rest))
     if rest or len(shown) > options.most:
         yield ""
     if len(shown) > options.most:

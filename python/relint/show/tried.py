@@ -5,8 +5,9 @@ import json
 import sys
 import tempfile
 import time
+from contextlib import closing
 from dataclasses import replace
-from typing import Any, Dict, List, Sequence, Tuple
+from typing import List, Sequence, Tuple
 
 from ..base import rate
 from ..base.model import NEW, OTHER, WARNED, Finding, Summary
@@ -20,6 +21,7 @@ from ..stages import growth, pipeline
 from ..trials import confirm as confirming
 from ..trials import record as recording
 from ..trials.confirm import CONFIRMED, NOT_SEEN, NOT_TRIED, Limits, Outcome
+from .terminal import facts
 
 
 def limits_of(options: Options, until: float) -> Limits:
@@ -28,23 +30,21 @@ def limits_of(options: Options, until: float) -> Limits:
 
 
 def confirm(options: Options) -> int:
-    """Does `rlt confirm`: tries the findings on this Python, keeps its rate, and returns the status of the run.
-
-    Raises what `pipeline.run` does, and Unwritten.
-    """
+    """Does `rlt confirm`, and returns the status of the run. Raises what `pipeline.run` does, and Unwritten."""
     until = time.monotonic() + options.seconds
     findings, summary = pipeline.run(replace(options, most=0))
     status = pipeline.status_of(findings, summary, options)
     tried = [it for it in findings if it.state in (NEW, WARNED)]
     outcomes = confirming.confirmed(tried, limits_of(options, until))
+    if sys.stderr is not None:
+        for it in facts(findings, summary, options):
+            print(f"rlt: {visible(it)}", file=sys.stderr)
     lines = [_line(*it) for it in zip(tried, outcomes)] + [_sum(outcomes)]
     write("".join(f"{line(it)}\n" for it in lines) if options.format == "terminal" else _json(tried, outcomes, options))
-    asker = Asker(options, until)
-    try:
+    with closing(Asker(options, until)) as asker:
         found = confirming.rate_of(tried, outcomes, asker)
-    finally:
-        asker.close()
-    _say(_kept(found), options)
+    if not options.quiet and sys.stderr is not None:
+        print(f"rlt: {visible(_kept(found))}", file=sys.stderr)
     return status if status > 1 else 0
 
 
@@ -56,12 +56,6 @@ def _kept(found: "int | None") -> str:
         return f"{rate.keep(found)}: about {float(f'{found:.2g}'):,.0f} steps a second"
     except WriteError as error:
         return f"no rate is kept: {error}"
-
-
-def _say(text: str, options: Options) -> None:
-    """Writes a line to standard error, unless it is to be quiet."""
-    if not options.quiet and sys.stderr is not None:
-        print(f"rlt: {visible(text)}", file=sys.stderr)
 
 
 def _line(finding: Finding, outcome: Outcome) -> str:
@@ -84,39 +78,31 @@ def _sum(outcomes: Sequence[Outcome]) -> str:
 
 def _json(tried: Sequence[Finding], outcomes: Sequence[Outcome], options: Options) -> str:
     """All results as a line of JSON."""
-    rows: List[Dict[str, Any]] = []
-    for finding, outcome in zip(tried, outcomes):
-        rows.append({"path": finding.entry.path, "line": finding.place.line, "column": finding.place.column,
-                     "call": finding.entry.call, "result": outcome.result.replace(" ", "-"), "length": outcome.length,
-                     "k": outcome.k, "took": outcome.seconds, "why": outcome.why})
+    rows = [{"path": finding.entry.path, "line": finding.place.line, "column": finding.place.column,
+             "call": finding.entry.call, "result": outcome.result.replace(" ", "-"), "length": outcome.length,
+             "k": outcome.k, "took": outcome.seconds, "why": outcome.why} for finding, outcome in zip(tried, outcomes)]
     whole = {"findings": rows, "python": rate.python_name(), "over": options.over, "longest": options.longest}
     return json.dumps(whole, sort_keys=True) + "\n"
 
 
 def record(options: Options) -> Tuple[List[Finding], Summary, int]:
-    """Does `rlt record` but for showing: runs the program, and returns findings, what was done, and the status.
-
-    Raises OptionsError without a command, and ProgramError.
-    """
+    """Does `rlt record` but for showing; returns findings, summary and status. Raises OptionsError and ProgramError."""
     if not options.arguments:
         raise OptionsError("give the program behind --, as in: rlt record -- pytest tests")
     begun = time.monotonic()
-    asker = Asker(options)
-    with tempfile.TemporaryDirectory(prefix="rlt-record-") as folder:
+    with closing(Asker(options)) as asker, tempfile.TemporaryDirectory(prefix="rlt-record-") as folder:
         def found() -> List[Finding]:
             """What was recorded so far; the service keeps its answers, so nothing is asked twice."""
             return recording.findings_of(recording.read_notes(folder, options.below).found, asker, options.mode,
                                          options.max_degree)
-        try:
-            ended = recording.ran(options.arguments, folder, found)
-            asker.deadline = time.monotonic() + options.seconds
-            findings, noted = found(), recording.read_notes(folder, options.below)
-            run = Run(options, Chosen(".", (".",)), None, asker, asker.deadline, steps_a_second=rate.kept())
-            if options.trials:
-                findings = confirming.hangs(findings, asker, limits_of(options, asker.deadline), options.max_degree)
-            findings = growth.explained(growth.grown(findings, run), run)
-        finally:
-            asker.close()
+
+        ended = recording.ran(options.arguments, folder, found)
+        asker.deadline = time.monotonic() + options.seconds
+        findings, noted = found(), recording.read_notes(folder, options.below)
+        run = Run(options, Chosen(".", (".",)), None, asker, asker.deadline, steps_a_second=rate.kept())
+        if options.trials:
+            findings = confirming.hangs(findings, asker, limits_of(options, asker.deadline), options.max_degree)
+        findings = growth.explained(growth.grown(findings, run), run)
     made = ", ".join(f"{count:,} by {name}" for name, count in recording.counted_by_engine(noted.found)) or "none"
     processes = counted(noted.processes, "process", "processes")
     notes = [f"the program ended with status {ended}; patterns that {processes} made: {made}"]

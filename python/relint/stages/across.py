@@ -53,13 +53,16 @@ class Looked:
 
 # ---- in a pattern's own file
 
-def look(places: Mapping[str, Sequence[Tuple[int, int, str]]], pool: Workers, data: Optional[Mapping[str, bytes]] = None
-         ) -> Dict[str, Looked]:
+def look(
+    places: Mapping[str, Sequence[Tuple[int, int, str]]], pool: Workers, data: Optional[Mapping[str, bytes]] = None,
+    told: bool = False,
+) -> Dict[str, Looked]:
     """Returns for each path what is found at its places, each a line, a column and the function of `re`.
 
-    `data` has the bytes of files that aren't to be read. A file on which a worker fails is looked at once more, unparsed.
+    `data` has the bytes of files that aren't to be read. With `told`, others say the places, so that nothing is shown of one
+    without such a call. A file on which a worker fails is looked at once more, unparsed.
     """
-    pieces: List[Dict[str, Any]] = [{"do": "look", "path": path, "wanted": rows, "plain": False}
+    pieces: List[Dict[str, Any]] = [{"do": "look", "path": path, "wanted": rows, "plain": False, "told": told}
                                     for path, rows in places.items()]
     for piece in pieces:
         if data is not None and piece["path"] in data:

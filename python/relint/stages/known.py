@@ -7,12 +7,14 @@ written into a private folder, and judged and looked at there as those of the ru
 from __future__ import annotations
 
 import os
+import re
 from collections import Counter
 from dataclasses import replace
 from typing import Callable, Dict, Iterable, Iterator, List, Mapping, NamedTuple, Optional, Sequence, Set, Tuple
 
-from ..base.model import KNOWN, MODES, NEW, OTHER, PROVED, WARNED, Finding
+from ..base.model import KNOWN, MODES, NEW, OTHER, PROVED, WARNED, Finding, NotLooked
 from ..base.safe import is_utf8
+from ..base.words import CAUSES
 from ..engine.run import Run
 from ..files import Chosen
 from ..git import MOST_OBJECT, Blob
@@ -23,6 +25,9 @@ Key = Tuple[str, str, str, str]
 # Judges the files of a run, as far as its findings have sites, uses and states.
 Judging = Callable[[Run], List[Finding]]
 MOST_BYTES = 1 << 29
+BROUGHT = "{}; this change brings it"
+# The coding that one of the first two lines of a source names.
+CODING = re.compile(rb"(?:[^\n]*\n)?[ \t\f]*#[^\n]*?coding[:=][ \t]*([-\w.]+)")
 NOT_READ = "{} couldn't be read in whole, so a finding may count as new though it was there"
 
 
@@ -42,6 +47,41 @@ def _counts(finding: Finding, run: Run) -> bool:
     is_open = finding.verdict is None or finding.is_open(run.options.max_degree)
     is_strict = run.options.strict and finding.state == OTHER and finding.entry.call is not None and is_open
     return finding.state in (NEW, WARNED) or is_strict
+
+
+def with_brought(every: Sequence[NotLooked], run: Run) -> List[NotLooked]:
+    """Returns what isn't looked at; what a change brings of it fails, so that none can blind its own check.
+
+    It brings what is new, and a source that could be read before. Raises GitError.
+    """
+    brought = [_brings(it, run) for it in every]
+    return [replace(it, why=BROUGHT.format(CAUSES.get(it.why, it.why)), fails=True) if is_brought else it
+            for it, is_brought in zip(every, brought)]
+
+
+def _brings(lost: NotLooked, run: Run) -> bool:
+    """Whether the change since the earlier commit of the run brings something that isn't looked at."""
+    assert run.earlier is not None
+    path = lost.path.partition(", cell ")[0]
+    inside = run.earlier.inside(path)
+    if inside is None or lost.fails:
+        return False
+    blob = run.earlier.files().get(inside)
+    if blob is None:
+        return not run.earlier.has(inside)
+    if lost.is_part or blob.size > MOST_OBJECT or run.earlier.is_same(blob, run.data(path)):
+        return False
+    return _is_plain(run.earlier.read(blob))
+
+
+def _is_plain(data: bytes) -> bool:
+    """Whether a source is UTF-8, and names no other coding."""
+    named = CODING.match(data[:1000])
+    try:
+        data.decode("utf-8")
+    except UnicodeDecodeError:
+        return False
+    return named is None or named[1].lower() in (b"utf-8", b"utf8")
 
 
 def key_without_mode(finding: Finding) -> Optional[Key]:

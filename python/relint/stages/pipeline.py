@@ -9,19 +9,23 @@ from dataclasses import replace
 from typing import Dict, Iterator, List, Mapping, NamedTuple, Optional, Sequence, Tuple
 
 from ..base import rate
-from ..base.model import MODES, NEW, OTHER, PROVED, UNUSED, WARNED, Entry, Finding, NotLooked, Summary, Text, Uses, Verdict
-from ..base.safe import OpenError, Scratch, is_below, read_named, visible
+from ..base.model import (
+    MODES, NEW, OTHER, PROVED, UNUSED, WARNED, Clock, Entry, Finding, NotLooked, Summary, Text, Uses, Verdict,
+)
+from ..base.safe import OpenError, Scratch, is_below, parts_named, read_named, visible
 from ..engine.ask import Asker
 from ..engine.engine import MOST_BYTES, Judged, Progress, ReportError, judge, not_looked, read_report
 from ..engine.run import Run
 from ..files import DEEP, WHY, Earlier, choose
-from ..options import Options, version
+from ..options import CONTROL, Options, version
 from . import accept, across, growth, known, reach
 from .pool import Pool
 from .worker import Worker
 
 # The part of the total time after which nothing new is begun; the rest is for what has to be done with what was found.
 PART_OF_THE_TIME = 0.85
+# The part of that in which reports are read.
+PART_OF_READING = 0.4
 # Fixes are looked for until all processors have taken so many seconds.
 SECONDS_OF_FIXES = 10.0
 REPORTED = (".py", ".pyi", ".ipynb")
@@ -63,7 +67,7 @@ def opened(options: Options, progress: Optional[Progress] = None) -> Iterator[Ru
     begun = time.monotonic()
     deadline = begun + options.seconds * PART_OF_THE_TIME
     chosen = choose(options, deadline)
-    earlier = Earlier(options.baseline_commit, options.folder) if options.baseline_commit else None
+    earlier = Earlier(options.baseline_commit, options.folder, deadline) if options.baseline_commit else None
     asker = Asker(options, deadline)
     with ExitStack() as stack:
         scratch = stack.enter_context(Scratch()) if earlier is not None else ""
@@ -88,15 +92,18 @@ def staged(run: Run) -> List[Finding]:
 
 def summary_of(findings: Sequence[Finding], run: Run) -> Summary:
     """Returns what a run did, besides its findings."""
-    lost = dict.fromkeys((*run.chosen.not_looked, *run.not_looked))
+    lost = list(dict.fromkeys((*run.chosen.not_looked, *run.not_looked)))
+    if run.earlier is not None and run.options.locked:
+        lost = known.with_brought(lost, run)
     if run.asker.missing:
         run.notes.append(f"{run.asker.missing}; without it, no class as used, no text and no fix is known")
+    missed = sum(it.count for it in run.not_looked if not it.is_part)
     return Summary(
-        files=run.files - sum(it.count for it in run.not_looked), patterns=sum(it.entry.call is not None for it in findings),
+        files=run.files - missed, patterns=sum(it.entry.call is not None for it in findings),
         seconds=time.monotonic() - run.begun, not_looked=tuple(lost), narrowed=run.chosen.narrowed,
         notes=tuple(dict.fromkeys((*run.chosen.notes, *run.notes))), unused_ignores=run.unused_ignores,
         added_accepts=run.added_accepts, late=run.late or run.asker.late or run.pool.late, steps_a_second=run.steps_a_second,
-        folders=run.chosen.folders, version=version(),
+        folders=run.chosen.folders, version=version(), clock=Clock(run.begun + run.options.seconds),
     )
 
 
@@ -135,9 +142,10 @@ def _reported(run: Run) -> Judged:
     """What the reports that are named say. Raises ReportError for one that is none, or names what relint wouldn't read."""
     entries: Dict[Entry, None] = {}
     late = False
+    until = run.begun + (run.deadline - run.begun) * PART_OF_READING
     for path in run.options.reports:
         try:
-            report = read_report(read_named(path, MOST_BYTES), run.deadline)
+            report = read_report(parts_named(path, MOST_BYTES), until)
         except (OpenError, ReportError) as error:
             raise ReportError(f"{visible(path)}: {error}") from error
         entries.update(dict.fromkeys(report.entries))
@@ -154,8 +162,7 @@ def _reported(run: Run) -> Judged:
 
 def may_be_reported(path: str) -> bool:
     """Returns whether a report may name a path: that of a Python source below the current folder."""
-    names = path.split("/")
-    return is_below(path, ["."]) and path.endswith(REPORTED) and not {".git", ".hg", ".svn", ".bzr"} & set(names)
+    return is_below(path, ["."]) and path.endswith(REPORTED) and not set(CONTROL) & set(path.lower().split("/"))
 
 
 def _entry_of(lost: NotLooked) -> Entry:
@@ -183,9 +190,11 @@ def state_of(verdict: Optional[Verdict], options: Options) -> str:
 # ---- sites and uses
 
 def judged_as_used(findings: List[Finding], run: Run) -> List[Finding]:
-    """Returns the findings with their sites, uses, and the class under the worst use."""
+    """Returns the findings with their sites, uses, and the class under the worst use; as they are if no time is left."""
+    if run.is_late():
+        return findings
     wanted = _wanted(findings, run)
-    looked = across.look(wanted.places, run.pool, wanted.data)
+    looked = across.look(wanted.places, run.pool, wanted.data, bool(run.options.reports))
     answer, local = list(findings), {}
     for path, numbers in wanted.numbers.items():
         file = looked.get(path)
@@ -196,9 +205,11 @@ def judged_as_used(findings: List[Finding], run: Run) -> List[Finding]:
             if answer[at].known == PROVED:
                 answer[at] = replace(answer[at], site=file.sites[row], lines=tuple(file.lines[row]))
             local[at] = file.local[row]
+    if run.is_late():
+        return answer
     _ask(answer, local, run)
     uses = _uses(answer, local, run)
-    return [_as_used(it, uses.get(at), run.options) for at, it in enumerate(answer)]
+    return [_as_used(it, uses.get(at), run.options) if it.by_mode or at in uses else it for at, it in enumerate(answer)]
 
 
 class _Wanted(NamedTuple):

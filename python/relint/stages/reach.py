@@ -55,6 +55,7 @@ def _rows(wanted: Set[Any], run: Run) -> List[_Row]:
     if run.chosen.data is not None:
         pieces[0]["data"] = run.chosen.data.decode("latin-1")
     rows: List[_Row] = []
+    lost = {it.path for it in run.not_looked}
     for index, answer in run.pool.answers(pieces):
         path = paths[index]
         try:
@@ -65,9 +66,9 @@ def _rows(wanted: Set[Any], run: Run) -> List[_Row]:
             why, left = run.pool.why(index) or "no answer could be read", []
         if why and path in run.chosen.notebooks:
             run.not_looked.append(NotLooked(path, why))
-        elif why:
-            run.notes.append(f"{path}: patterns by name and in pieces aren't looked at: {why}")
-        run.not_looked += [NotLooked(f"{path}, cell {it}", "this Python can't parse it") for it in left]
+        elif why and path not in lost:
+            run.not_looked.append(NotLooked(path, f"patterns by name and in pieces: {why}", is_part=True))
+        run.not_looked += [NotLooked(f"{path}, cell {it}", "this Python can't parse it", is_part=True) for it in left]
     return rows
 
 

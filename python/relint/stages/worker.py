@@ -6,7 +6,7 @@ Each piece may also have `seconds`, the processor time that it may take, if that
 
 look      {"do": "look", "path": P, "wanted": [[line, column, call], ..]}, and optionally "data": the bytes of the file as
           Latin-1 (for standard input, an earlier commit or an editor; nothing is read then), "plain": true (nothing is parsed,
-          for a file on which the parser died)
+          for a file on which the parser died), "told": true (others say the places: what no call of re takes isn't shown)
        -> {"why": "" or a clause why the file can't be read, "parsed": true, "ignores": [[line, null or ["RLT100"]], ..],
           "rows": [[SITE or null, [[number, line], ..], USES], ..]}, a row for each that is wanted
 mentions  {"do": "mentions", "paths": [P, ..], "root": R, "asked": [[home, name, kind], ..]}
@@ -88,6 +88,9 @@ class Worker:
         for line, column, call in piece["wanted"]:
             place = Place(line, column)
             site = unit.site(place, call)
+            if piece.get("told") and (site is None or not unit.takes(call, site)):
+                rows.append([None, [], _uses(LocalUses(lost="no pattern is there"))])
+                continue
             rows.append([_site(site), unit.lines_to_show(place, site), _uses(uses_at(unit, place, call))])
         return {"why": "", "parsed": not rows or unit.is_parsed, "ignores": list(unit.ignores().items()), "rows": rows}
 

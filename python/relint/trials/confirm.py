@@ -9,14 +9,15 @@ from __future__ import annotations
 import math
 import re
 import time
+from contextlib import closing
 from dataclasses import dataclass, replace
-from typing import Any, Dict, Iterator, List, Mapping, Optional, Sequence, Tuple
+from typing import Any, Dict, List, Mapping, Optional, Sequence, Tuple
 
-from ..base.model import NEW, SEEN, Finding, Seen, Site, Verdict
+from ..base.model import NEW, SEEN, Family, Finding, Seen, Verdict
 from ..base.rate import LEAST, MOST, python_name
-from ..engine.ask import Asker, letters, question
-from .loosen import Form, forms
-from .trial import Trial, answers, as_text
+from ..engine.ask import Asker, as_text, letters, question
+from .loosen import forms
+from .tries import Trials
 
 CONFIRMED, NOT_SEEN, NOT_TRIED = "confirmed", "not seen", "not tried"
 OVER, LONGEST = 1.0, 100_000
@@ -60,15 +61,22 @@ class Outcome:
     times: Tuple[Tuple[int, int, float], ...] = ()
 
 
-def _question(site: Site, verdict: Verdict, mode: str, limits: Limits) -> Optional[Dict[str, Any]]:
-    """The question for the process of a trial; None if the pattern can't be tried with the texts of this class."""
-    family = verdict.family
-    if family is None or site.flags is None or isinstance(family.heads[0], bytes) != isinstance(site.pattern, bytes):
+def _texts(family: Family) -> Dict[str, List[str]]:
+    """A family as questions have it."""
+    return {"heads": list(map(as_text, family.heads)), "pumps": list(map(as_text, family.pumps))}
+
+
+def _question(finding: Finding, limits: Limits) -> Optional[Dict[str, Any]]:
+    """The question for the process of a trial; None if the pattern can't be tried with the texts of its class."""
+    site, verdict = finding.site, finding.verdict
+    family = verdict.family if verdict is not None else None
+    if verdict is None or family is None or site is None or site.flags is None:
         return None
-    shown = verdict.at_least or verdict
-    return {"pattern": as_text(site.pattern), "flags": site.flags, "bytes": isinstance(site.pattern, bytes), "mode": mode,
-            "heads": list(map(as_text, family.heads)), "pumps": list(map(as_text, family.pumps)), "seconds": limits.over,
-            "longest": limits.longest, "exponential": shown.kind == "exponential"}
+    if isinstance(family.heads[0], bytes) != isinstance(site.pattern, bytes):
+        return None
+    return {"pattern": as_text(site.pattern), "flags": site.flags, "bytes": isinstance(site.pattern, bytes),
+            "mode": finding.mode, **_texts(family), "seconds": limits.over, "longest": limits.longest,
+            "exponential": (verdict.at_least or verdict).kind == "exponential"}
 
 
 def _outcome(answer: Optional[Mapping[str, Any]], limits: Limits) -> Outcome:
@@ -87,41 +95,26 @@ def _outcome(answer: Optional[Mapping[str, Any]], limits: Limits) -> Outcome:
     return Outcome(NOT_SEEN, *times[-1], why, times)
 
 
-def tried(asked: Sequence[Tuple[Site, Verdict, str]], limits: Limits) -> List[Outcome]:
-    """Returns what trials of patterns show, each with a class, whose family is tried, and its mode."""
-    questions = [_question(*it, limits) for it in asked]
-    trials = [Trial() for _ in range(max(1, min(limits.jobs, len(questions))))]
-    try:
-        patience = (40 * limits.over + 60) * PATIENCE
-        found = iter(answers(trials, [it for it in questions if it is not None], patience, limits.until))
-        return [_outcome(next(found), limits) if it is not None
-                else Outcome(NOT_TRIED, why="there are no texts to try") for it in questions]
-    finally:
-        for it in trials:
-            it.close()
-
-
 def confirmed(findings: Sequence[Finding], limits: Limits) -> List[Outcome]:
-    """Returns what trials of findings show, in order, each in the mode of its worst use."""
-    known = [(it.site, it.verdict, it.mode) for it in findings if it.site is not None and it.verdict is not None]
-    found = iter(tried([(site, verdict, mode) for site, verdict, mode in known if site and verdict], limits))
-    return [next(found) if it.site is not None and it.verdict is not None
-            else Outcome(NOT_TRIED, why="its pattern isn't known") for it in findings]
+    """Returns what trials of findings show, in order, each in the mode of its worst use with the family of its class."""
+    questions = [_question(it, limits) for it in findings]
+    with closing(Trials(limits.jobs, (40 * limits.over + 60) * PATIENCE, limits.until)) as trials:
+        found = iter(trials.ask_all([it for it in questions if it is not None]))
+        return [_outcome(next(found), limits) if question is not None else Outcome(
+            NOT_TRIED, why="there are no texts to try" if it.site and it.verdict else "its pattern isn't known")
+                for it, question in zip(findings, questions)]
 
 
 def rate_of(findings: Sequence[Finding], outcomes: Sequence[Outcome], asker: Asker) -> Optional[int]:
-    """Returns the steps that this Python does in a second, as the confirmed findings show it; None if they don't.
-
-    Raises ProgramError if relint-ask can't be run.
-    """
+    """Returns the steps that this Python does in a second, if the confirmed findings show it; raises ProgramError."""
     rates: List[float] = []
     for finding, outcome in zip(findings, outcomes):
         timed = [it for it in outcome.times if it[2] >= LEAST_SECONDS]
         site, verdict = finding.site, finding.verdict
         if outcome.result == CONFIRMED and timed and site is not None and verdict is not None and verdict.family is not None:
             k, _, took = timed[-1]
-            family = {"heads": list(map(as_text, verdict.family.heads)), "pumps": list(map(as_text, verdict.family.pumps))}
-            answer = asker.ask(question("cost", site.pattern, site.flags or 0, mode=finding.mode, k=k, **family))
+            more = {"mode": finding.mode, "k": k, **_texts(verdict.family)}
+            answer = asker.ask(question("cost", site.pattern, site.flags or 0, **more))
             if answer.get("answer") == "cost" and str(answer.get("steps")).isdigit():
                 rates.append(int(answer["steps"]) / took)
         if len(rates) == MOST_SAMPLES:
@@ -161,25 +154,21 @@ def seen_class(verdict: Verdict, power: float, max_degree: int) -> Optional[Verd
 
 
 def hangs(findings: Sequence[Finding], asker: Asker, limits: Limits, max_degree: int) -> List[Finding]:
-    """Returns the findings, and those that relint can't judge but that were seen to hang as findings of the kind SEEN.
-
-    Raises ProgramError if relint-ask can't be run.
-    """
+    """Returns the findings; those not judged that were seen to hang are of the kind SEEN now. Raises ProgramError."""
     found = list(findings)
     places = [at for at, it in enumerate(findings) if _is_to_be_tried(it)]
-    made = {at: list(_chosen(findings[at], asker, max_degree)) for at in places}
+    made = {at: _chosen(findings[at], asker, max_degree) for at in places}
     for number in range(MOST_TRIALS):
         left = [at for at in places if number < len(made[at]) and found[at].known != SEEN]
         if time.monotonic() > limits.until:
             break
-        asked = [(site, made[at][number][1], findings[at].mode) for at in left for site in [findings[at].site] if site]
-        for at, outcome in zip(left, tried(asked, limits)):
-            form, verdict = made[at][number]
-            its = seen_class(verdict, power_of(outcome, limits.over), max_degree) if outcome.result == CONFIRMED else None
+        asked = [replace(findings[at], by_mode={findings[at].mode: made[at][number]}) for at in left]
+        for at, outcome in zip(left, confirmed(asked, limits)):
+            power = power_of(outcome, limits.over)
+            its = seen_class(made[at][number], power, max_degree) if outcome.result == CONFIRMED else None
             if its is not None:
-                seen = Seen(python_name(), outcome.length, limits.over, outcome.k, form.pattern, its.family, form.rules)
-                mode = findings[at].mode
-                found[at] = replace(findings[at], known=SEEN, state=NEW, seen=seen, by_mode={mode: its})
+                seen = Seen(python_name(), outcome.length, limits.over, outcome.k, its.family)
+                found[at] = replace(findings[at], known=SEEN, state=NEW, seen=seen, by_mode={findings[at].mode: its})
     return found
 
 
@@ -191,14 +180,14 @@ def _is_to_be_tried(finding: Finding) -> bool:
     return finding.is_open(0) if finding.verdict is not None else entry.kind == "refused" and entry.cause in LOOSENED
 
 
-def _chosen(finding: Finding, asker: Asker, max_degree: int) -> Iterator[Tuple[Form, Verdict]]:
-    """Yields the forms of a pattern whose class is a finding, each with its class, the worst first; few."""
+def _chosen(finding: Finding, asker: Asker, max_degree: int) -> List[Verdict]:
+    """The classes of a pattern's forms that are findings, the worst first; few."""
     site = finding.site
     assert site is not None and site.flags is not None
     made = forms(site.pattern, site.flags & ~int(re.DEBUG), finding.verdict is not None)
-    verdicts = asker.verdicts([(it.pattern, site.flags, finding.mode) for it in made])
-    worst: Dict[object, Tuple[Form, Verdict]] = {}
-    for form, verdict in zip(made, verdicts):
+    verdicts = asker.verdicts([(it, site.flags, finding.mode) for it in made])
+    worst: Dict[object, Verdict] = {}
+    for verdict in verdicts:
         if verdict is not None and verdict.family is not None and verdict.is_finding(max_degree):
-            worst.setdefault(verdict.family, (form, verdict))
-    yield from sorted(worst.values(), key=lambda it: -it[1].rank())[:MOST_TRIALS]
+            worst.setdefault(verdict.family, verdict)
+    return sorted(worst.values(), key=lambda it: -it.rank())[:MOST_TRIALS]

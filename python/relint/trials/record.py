@@ -12,7 +12,7 @@ from pathlib import Path
 from typing import Callable, Dict, List, Optional, Sequence, Tuple
 
 from ..base.model import ELSEWHERE, NEW, OTHER, Entry, Finding, Place, Site, Text
-from ..base.safe import OpenError, read_below
+from ..base.safe import OpenError, is_below, read_below
 from ..engine.ask import Asker
 from ..engine.program import ProgramError
 
@@ -38,10 +38,7 @@ class Noted:
 
 @dataclass
 class Recorded:
-    """What was recorded: each pattern once for each place, and how many processes made some.
-
-    `left_out` counts patterns above a limit, and `wrong` lines and files that can't be read.
-    """
+    """What was recorded: patterns, processes that made some, patterns above a limit, and what can't be read."""
 
     found: List[Noted] = field(default_factory=list)
     processes: int = 0
@@ -73,12 +70,12 @@ def read_notes(folder: str, below: str = "") -> Recorded:
             recorded.wrong += 1
             continue
         recorded.processes += 1
-        for it in filter(None, lines):
-            note = _note(it)
-            recorded.wrong += note is None
-            if note is not None and (not note.path or len(distinct) >= MOST_PATTERNS):
+        for note in (_note(it) for it in lines if it):
+            if note is None:
+                recorded.wrong += 1
+            elif not note.path or len(distinct) >= MOST_PATTERNS:
                 recorded.left_out += 1
-            elif note is not None:
+            else:
                 distinct[note] = None
     recorded.found = [it for it in distinct if not below or _is_below(it.path, below)]
     return recorded
@@ -101,11 +98,8 @@ def _note(line: bytes) -> Optional[Noted]:
 
 
 def _is_below(path: str, folder: str) -> bool:
-    """Whether a path is the folder or lies in it, once links are followed."""
-    if not os.path.isabs(path):
-        return False
-    top = os.path.realpath(folder)
-    return os.path.commonpath([os.path.realpath(path), top]) == top
+    """Whether an absolute path is the folder or lies in it, once links are followed."""
+    return os.path.isabs(path) and is_below(os.path.realpath(path), [os.path.realpath(folder)])
 
 
 def ran(command: Sequence[str], folder: str, meanwhile: Callable[[], object]) -> int:

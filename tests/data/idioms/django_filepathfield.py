@@ -1,0 +1,5 @@
+"""Django, models and forms: FilePathField's `match` is a pattern for the files' names."""
+# pattern: 'foo.*\\.txt$'
+from django.db import models
+class Report(models.Model):
+    path = models.FilePathField(path="/home/reports", match=r"foo.*\.txt$", recursive=True)

@@ -1,0 +1,5 @@
+"""Plain Python: functions of re under other names."""
+# pattern: 'under another name'
+import re as regular
+rx = regular.compile
+NAMED = rx("under " + "another name")

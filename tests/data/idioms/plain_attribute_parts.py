@@ -1,0 +1,2 @@
+"""A part of plain_module_attribute.py."""
+HEX = "[0-9a-f]"

@@ -1,0 +1,2 @@
+"""A part of plain_import.py."""
+NAME = r"[A-Za-z_]\w*"

@@ -1,0 +1,2 @@
+"""A part of plain_star_import.py."""
+STAR = r"^\*\s+"
