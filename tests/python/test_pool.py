@@ -96,7 +96,7 @@ class Harm(unittest.TestCase):
         begun = time.monotonic()
         with pool.Pool(1, work) as workers:
             self.assertEqual(list(workers.answers([{"do": "loop", "seconds": 0.1}])), [(0, None)])
-            self.assertIn("0.1 seconds", workers.why(0))
+            self.assertRegex(workers.why(0), "more than (0.1|2) seconds")
         self.assertLess(time.monotonic() - begun, 5)
 
     def test_the_clock(self) -> None:
