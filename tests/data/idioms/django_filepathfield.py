@@ -2,4 +2,4 @@
 # pattern: 'foo.*\\.txt$'
 from django.db import models
 class Report(models.Model):
-    path = models.FilePathField(path="/home/reports", match=r"foo.*\.txt$", recursive=True)
+    path = models.FilePathField(path="reports", match=r"foo.*\.txt$", recursive=True)
