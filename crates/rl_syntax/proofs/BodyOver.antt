@@ -13,7 +13,7 @@ use Rattle.rl_syntax.specs.declared.re.Mode.{Mode}
 use Rattle.rl_syntax.specs.declared.re.Mode.TheVariants.{Fullmatch, Match, Search}
 use Rattle.rl_syntax.specs.Guards.{is_line_feed}
 use Rattle.rl_syntax.specs.Tree.{Tree, guard, LiesIn, IsOver}
-use Rattle.rl_syntax.specs.PatTree.{PatTree, PatTrees, BranchTrees, nothing, class, seq, choice, repeat, group, anchor, boundary, outside, no_items, item, no_branches, branch}
+use Rattle.rl_syntax.specs.PatTree.{PatTree, PatTrees, BranchTrees, nothing, class, seq, choice, repeat, group, anchor, boundary, look, outside, no_items, item, no_branches, branch}
 use Rattle.rl_syntax.specs.IsPattern.{IsPart, AreParts, AreBranches, IsPattern}
 use Rattle.rl_syntax.specs.Lowering.{in_turn, one_of, option_of, options, tail_of, times, guard_of, lowered, items_lowered, branches_lowered}
 use Rattle.rl_syntax.specs.Modes.{is_code, trailed, sought, wrapped, tree_in}
@@ -81,6 +81,7 @@ mutual
   part-over u (anchor span kind multiline) h = guard-over u kind multiline
   part-over u (boundary span true ascii) h = (h, tt)
   part-over u (boundary span false ascii) h = (h, tt)
+  part-over u (look span behind negated ranges) h = (h, tt)
   part-over u (outside span what) h = tt
 
   parts-over : (u : Universe) (ps : PatTrees) → AreParts u ps → AllOver u (items_lowered ps)

@@ -6,12 +6,13 @@
 use Rattle.std.specs.Prelude.{ℕ, ◌≤◌, Bool, true, false, not, ◌&&◌, IsTrue, Option, None, Some}
 use Rattle.std.specs.Coded.{×_prop, Π_prop, Unit-prop, le_prop, Coded-set, coded_bool}
 use mathlib.Core.HLevel.{⊥_prop}
+use Rattle.rl_ranges.specs.Codes.{has}
 use Rattle.rl_ranges.specs.declared.universe.Universe.{Universe}
 use Rattle.rl_syntax.specs.declared.anchors.AnchorKind.{AnchorKind}
 use Rattle.rl_syntax.specs.declared.anchors.AnchorKind.TheVariants.{Caret, TextStart, Dollar, TextEnd}
 use Rattle.rl_syntax.specs.Guards.{is_word}
 use Rattle.rl_syntax.specs.Tree.{LiesIn}
-use Rattle.rl_syntax.specs.PatTree.{PatTree, PatTrees, BranchTrees, nothing, class, seq, choice, repeat, group, anchor, boundary, outside, no_items, item, no_branches, branch}
+use Rattle.rl_syntax.specs.PatTree.{PatTree, PatTrees, BranchTrees, nothing, class, seq, choice, repeat, group, anchor, boundary, look, outside, no_items, item, no_branches, branch}
 
 -- Whether the anchor may occur within a body. Only `$` without MULTILINE may not. The flag is MULTILINE.
 abbrev pub is_inner : AnchorKind → Bool → Bool
@@ -54,6 +55,7 @@ abbrev mutual
   IsPart u (group span captures p) = IsPart u p
   IsPart u (anchor span kind multiline) = IsTrue (is_inner kind multiline)
   IsPart u (boundary span negated ascii) = LiesIn u (is_word ascii)
+  IsPart u (look span behind negated ranges) = LiesIn u (has ranges)
   IsPart u (outside span what) = ⊥
 
   -- Holds if every item of the sequence may occur in a body over the universe. Holds if there is none.
@@ -122,6 +124,7 @@ mutual
   IsPart-prop u (group span captures p) = IsPart-prop u p
   IsPart-prop u (anchor span kind multiline) = Coded-set coded_bool (is_inner kind multiline) true
   IsPart-prop u (boundary span negated ascii) = LiesIn-prop u (is_word ascii)
+  IsPart-prop u (look span behind negated ranges) = LiesIn-prop u (has ranges)
   IsPart-prop u (outside span what) = ⊥_prop
 
   -- Any two proofs that the items may occur in a body are equal.

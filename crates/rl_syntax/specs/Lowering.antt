@@ -1,14 +1,14 @@
 -- Lowering: the tree of a pattern. A `PatTree` is a pattern as it is written, and a `Tree` is what it is lowered to. A class
 -- becomes its set, sequences and choices nest to the right, a group becomes its body, a repeat becomes copies of its body, and
--- anchors and word boundaries become guards, which are tests of a position. The body of a pattern is what is left when the
--- anchors at its start and end have been removed.
+-- anchors, word boundaries and lookarounds of one character become guards, which are tests of a position. The body of a pattern
+-- is what is left when the anchors at its start and end have been removed.
 use Rattle.std.specs.Prelude.{ℕ, zero, suc, ◌-◌, Bool, true, false, List, [], ◌∷◌, ◌++◌, Option, None, Some, replicate, if◌then◌else◌}
 use Rattle.rl_syntax.specs.declared.anchors.AnchorKind.{AnchorKind}
 use Rattle.rl_syntax.specs.declared.anchors.AnchorKind.TheVariants.{Caret, TextStart, Dollar, TextEnd}
 use Rattle.rl_syntax.specs.declared.anchors.Guard.{Guard}
-use Rattle.rl_syntax.specs.declared.anchors.Guard.TheVariants.{Start, LineStart, LineEnd, TextEnd as AtTextEnd, Word, NotWord}
+use Rattle.rl_syntax.specs.declared.anchors.Guard.TheVariants.{Start, LineStart, LineEnd, TextEnd as AtTextEnd, Word, NotWord, Look}
 use Rattle.rl_syntax.specs.Tree.{Tree, empty, one, guard, both, either, many}
-use Rattle.rl_syntax.specs.PatTree.{PatTree, PatTrees, BranchTrees, nothing, class, seq, choice, repeat, group, anchor, boundary, outside, no_items, item, no_branches, branch}
+use Rattle.rl_syntax.specs.PatTree.{PatTree, PatTrees, BranchTrees, nothing, class, seq, choice, repeat, group, anchor, boundary, look, outside, no_items, item, no_branches, branch}
 
 -- The trees one after another, nested to the right. An empty list gives the empty tree.
 abbrev pub in_turn : List Tree → Tree
@@ -69,6 +69,7 @@ abbrev mutual
   lowered (group span captures p) = lowered p
   lowered (anchor span kind multiline) = guard (guard_of kind multiline)
   lowered (boundary span negated ascii) = guard (boundary_guard negated ascii)
+  lowered (look span behind negated ranges) = guard (Look behind negated ranges)
   lowered (outside span what) = empty
 
   -- The trees of the items, in order.

@@ -30,7 +30,10 @@ mutual
     anchor : Span → AnchorKind → Bool → PatTree
     -- A word boundary. The flags say whether it is `\B` and whether words are ASCII words.
     boundary : Span → Bool → Bool → PatTree
-    -- A feature that isn't judged, such as a lookahead.
+    -- A lookaround of one character of a set, which is given as the sorted list of its ranges. The flags say whether it looks
+    -- behind and whether it is negated.
+    look : Span → Bool → Bool → List (ℕ × ℕ) → PatTree
+    -- A feature that isn't judged, such as a lookahead of two characters.
     outside : Span → Feature → PatTree
 
   -- The items of a sequence, in order.
@@ -64,6 +67,7 @@ layer_of (Open.Pat-F.Repeat span mark least most greedy body) = repeat span mark
 layer_of (Open.Pat-F.Group span captures body) = group span captures body.value
 layer_of (Open.Pat-F.Anchor span kind multiline) = anchor span kind multiline
 layer_of (Open.Pat-F.Boundary span negated ascii) = boundary span negated ascii
+layer_of (Open.Pat-F.Look span behind negated set) = look span behind negated set
 layer_of (Open.Pat-F.Outside span what) = outside span what
 
 -- The span of a branch and the tree of its body, as a pair.

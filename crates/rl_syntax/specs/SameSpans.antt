@@ -19,7 +19,7 @@ SamePlaces u s t = (w : List ℕ) → IsText u w → (i j : ℕ) → Spans s w i
 abbrev pub OneLanguage : Universe → Tree → Tree → Type 0
 OneLanguage u s t = (w : List ℕ) → IsText u w → Spans s w 0 (length w) ↔ Spans t w 0 (length w)
 
--- Holds if the tree contains no guard, that is, no anchor and no word boundary.
+-- Holds if the tree contains no guard, that is, no anchor, no word boundary and no lookaround.
 abbrev pub Unguarded : Tree → Type 0
 Unguarded empty = Unit {0}
 Unguarded (one set) = Unit {0}

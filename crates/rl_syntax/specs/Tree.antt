@@ -1,13 +1,13 @@
 -- Trees. A lowered pattern is a tree of the operators of Python's `re`. A set is the test of its characters: the function from
--- codes to `true` or `false`. A guard is an anchor or a word boundary: it tests a position of a text and reads no character. A
--- universe is the range of codes, from 0, that a text may contain: those of `str` or those of `bytes`.
-use Rattle.std.specs.Prelude.{ℕ, suc, ◌+◌, ◌<◌, Bool, IsTrue, List, [], ◌∷◌, ◌++◌, min}
+-- codes to `true` or `false`. A guard is an anchor, a word boundary or a lookaround of one character: it tests a position of a
+-- text and reads no character. A universe is the range of codes, from 0, that a text may contain: those of `str` or those of `bytes`.
+use Rattle.std.specs.Prelude.{ℕ, suc, ◌+◌, ◌<◌, Bool, false, ◌||◌, IsTrue, List, [], ◌∷◌, ◌++◌, min}
 use Rattle.rl_ranges.specs.Codes.{has}
 use Rattle.rl_ranges.specs.Text.{code_count}
 use Rattle.rl_ranges.specs.declared.universe.Universe.{Universe}
 use Rattle.rl_syntax.specs.declared.anchors.Guard.{Guard}
 use Rattle.rl_syntax.specs.declared.re.Re.{Re, Empty, One, Both', Either', Many', Guard as GuardRe}
-use Rattle.rl_syntax.specs.Guards.{sets_named}
+use Rattle.rl_syntax.specs.Guards.{sets_named, is_look}
 
 -- A lowered pattern.
 pub data Tree : Type 0 where
@@ -74,7 +74,8 @@ guards_in (both e f) = guards_in e ++ guards_in f
 guards_in (either e f) = guards_in e ++ guards_in f
 guards_in (many e greedy) = guards_in e
 
--- The sets that the tree's guards use, from left to right: for each guard, the line feeds, the word characters, or none.
+-- The sets that the tree's guards use, from left to right: for each guard, the line feeds, the word characters, the set of a
+-- lookaround, or none.
 abbrev pub guard_sets : Tree → List (ℕ → Bool)
 guard_sets empty = []
 guard_sets (one set) = []
@@ -82,6 +83,15 @@ guard_sets (guard g) = sets_named g
 guard_sets (both e f) = guard_sets e ++ guard_sets f
 guard_sets (either e f) = guard_sets e ++ guard_sets f
 guard_sets (many e greedy) = guard_sets e
+
+-- Whether some guard of the tree is a lookaround. No tree of a pattern within the profile of `relint` has one.
+abbrev pub has_look : Tree → Bool
+has_look empty = false
+has_look (one set) = false
+has_look (guard g) = is_look g
+has_look (both e f) = has_look e || has_look f
+has_look (either e f) = has_look e || has_look f
+has_look (many e greedy) = has_look e
 
 -- Holds if the set holds only codes of the universe.
 abbrev pub LiesIn : Universe → (ℕ → Bool) → Type 0

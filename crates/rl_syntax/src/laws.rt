@@ -3,7 +3,8 @@
 //!
 //! A tree is a lowered pattern. It spans two positions of a text if it can match the characters between them. The run of a
 //! tree is the list of what a backtracking matcher does with it from a position on: tests of characters against sets, and
-//! ends, which are positions at which the tree has ended. A guard is an anchor or a word boundary.
+//! ends, which are positions at which the tree has ended. A guard is an anchor, a word boundary or a lookaround of one
+//! character.
 
 ghost use Rattle.std.specs.Prelude.{◌≡◌, ℕ, Bool, nat_lt, List, [], ◌∷◌, Option, if◌then◌else◌};
 ghost use Rattle.rl_ranges.specs.declared.universe.Universe.{Universe};

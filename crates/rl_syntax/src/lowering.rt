@@ -138,6 +138,16 @@ fn lower_part(alloc: Global, part: &Pat) -> Result<Re, OutOfMemory>
             ..
         } => Ok(Re::Guard(anchor_guard(*kind, *multiline))),
         Pat::Boundary { negated, ascii, .. } => { Ok(Re::Guard(boundary_guard(*negated, *ascii))) }
+        Pat::Look {
+            behind,
+            negated,
+            set,
+            ..
+        } => Ok(Re::Guard(Guard::Look {
+            behind: *behind,
+            negated: *negated,
+            set: set.copy()?,
+        })),
     }
 }
 

@@ -57,7 +57,15 @@ pub enum Pat {
         negated: bool,
         ascii: bool,
     },
-    /// A feature that isn't judged, such as a lookahead.
+    /// A lookaround of one character of the set: a lookbehind if `behind` is set, otherwise a lookahead. If `negated` is set,
+    /// there must be no such character.
+    Look {
+        span: Span,
+        behind: bool,
+        negated: bool,
+        set: CodeSet,
+    },
+    /// A feature that isn't judged, such as a lookahead of two characters.
     Outside {
         span: Span,
         what: Feature,

@@ -57,6 +57,7 @@ fn part_size(part: &Pat) -> u64
         | Pat::Class { .. }
         | Pat::Anchor { .. }
         | Pat::Boundary { .. }
+        | Pat::Look { .. }
         | Pat::Outside { .. } => 1,
     }
 }
