@@ -8,7 +8,6 @@
 
 ghost use Rattle.std.specs.Prelude.{◌≡◌, ◌↔◌, ◌⊎◌, ℕ, ◌+◌, ◌*◌, ◌^◌, ◌<◌, ◌≤◌, Bool, true, false, List, [], length, All, IsTrue};
 ghost use Rattle.rl_ranges.specs.Letters.{alike, classes};
-ghost use Rattle.rl_ranges.specs.declared.letters.TheConstants.{MOST_LETTERS};
 ghost use Rattle.rl_syntax.specs.declared.re.Ending.{Ending};
 ghost use Rattle.rl_syntax.specs.declared.re.Ending.TheVariants.{AtEnd, Anywhere};
 ghost use Rattle.rl_syntax.specs.Tree.{Tree, size, guards_in, has_look};
@@ -71,17 +70,18 @@ pub fn item_lists_are_short()
         → (q letter : ℕ) → length (moves_at a q letter) ≤ 2 ^ (size t * size t) }
 {}
 
-/// States bounds on the number of kinds and of states. Without a lookaround there are at most four kinds, since the guards use
-/// at most three sets then, one of which is a subset of another. In any case there are no more kinds than letters, and only
-/// one if the tree has no guards and there is at least one code. So an automaton that stands for a tree of measure `m`, with
-/// at most [`MOST_LETTERS`](rl_ranges::MOST_LETTERS) letters, has at most `4*m + 3` states.
+/// States bounds on the numbers of kinds and states. There are at most four kinds if the tree has no lookaround, and only one
+/// if it has no guards and there is at least one code. There are never more kinds than letters. A tree of measure `m` has at
+/// most `4*m + 3` states. Without a lookaround the measure is the size of the tree. The guards use at most three sets then, one
+/// of which is a subset of another.
 pub fn states_are_few()
     ensures kinds { (t : Tree) (n : ℕ) → has_look t ≡ false → length (kinds t n) ≤ 4 }
     ensures kinds_of_letters { (t : Tree) (n : ℕ) (sets : List (ℕ → Bool))
         → ((c d : ℕ) → alike sets c d ≡ true → alike (all_sets t) c d ≡ true) → length (kinds t n) ≤ length (classes sets n) }
     ensures one_kind { (t : Tree) (n : ℕ) → guards_in t ≡ [] → 0 < n → length (kinds t n) ≡ 1 }
-    ensures counted { (t : Tree) (n : ℕ) → has_look t ≡ false → state_count t n ≤ 4 * size t + 3 }
+    ensures size { (t : Tree) (n : ℕ) → size t ≤ measure n t }
+    ensures same_size { (t : Tree) (n : ℕ) → has_look t ≡ false → measure n t ≡ size t }
+    ensures counted { (t : Tree) (n : ℕ) → state_count t n ≤ 4 * measure n t + 3 }
     ensures states { (a : Automaton) (t : Tree) (ending : Ending) (sets : List (ℕ → Bool)) → StandsOver a t ending sets
-        → ((c d : ℕ) → alike sets c d ≡ true → alike (all_sets t) c d ≡ true) → letters_count a ≤ MOST_LETTERS
-        → a.states ≤ 4 * measure t + 3 }
+        → a.states ≤ 4 * measure a.table.codes t + 3 }
 {}
