@@ -1,17 +1,20 @@
 //! Sets of guards, and the guards that hold at a position of a text.
 
-ghost use Rattle.std.specs.Prelude.{◌≡◌, ℕ, true, false, None, Some, IfOk};
+ghost use Rattle.std.specs.Prelude.{◌≡◌, ℕ, ◌<◌, ◌≤◌, true, false, IfOk, length};
 ghost use Rattle.rl_syntax.specs.Guards.{is_word};
 ghost use Rattle.rl_ranges.specs.Codes.{has};
-ghost use Rattle.rl_prio.specs.internal.GuardSets.{no_guards, only, joined, met, shown, holding};
+ghost use Rattle.rl_ranges.specs.Letters.{letter_at};
+ghost use Rattle.rl_ranges.specs.declared.letters.TheConstants.{MOST_LETTERS};
+ghost use Rattle.rl_prio.specs.internal.GuardSets.{no_guards, only, look_only, has_none, joined, met, kinds_refused, nothing_shown, code_shown, holding};
 
 use rl_lists::OutOfMemory;
-use rl_ranges::{CodeSet, Named, Universe};
+use rl_ranges::{CodeSet, Letters, Named, Universe};
 use rl_syntax::Guard;
 use std::alloc::Global;
 
 /// A set of guards, as a flag for each guard: `true` if the set holds it. `word` and `not_word` are the word boundaries `\b`
-/// and `\B` by Unicode, `ascii_word` and `not_ascii_word` those by ASCII.
+/// and `\B` by Unicode, `ascii_word` and `not_ascii_word` those by ASCII. The last four fields are the lookarounds, taken
+/// apart: what they require of the code before a position and of the next one.
 #[derive(Clone, Copy)]
 pub(crate) struct Guards {
     start: bool,
@@ -22,6 +25,14 @@ pub(crate) struct Guards {
     ascii_word: bool,
     not_word: bool,
     not_ascii_word: bool,
+    /// There is a code before.
+    some_before: bool,
+    /// There is a next code.
+    some_next: bool,
+    /// The code before isn't of these kinds: bit `k` stands for the kind `k`.
+    not_before: u128,
+    /// The next code isn't of these kinds.
+    not_next: u128,
 }
 
 /// What is known of the code on one side of a position in a text.
@@ -35,6 +46,8 @@ pub(crate) struct Shown {
     word: bool,
     /// Whether it is a word character by ASCII.
     ascii_word: bool,
+    /// The kinds that it isn't of: bit `k` stands for the kind `k`. If there is no code, it is of no kind.
+    other_kinds: u128,
 }
 
 /// The word characters.
@@ -61,13 +74,38 @@ impl Guards {
             ascii_word: false,
             not_word: false,
             not_ascii_word: false,
+            some_before: false,
+            some_next: false,
+            not_before: 0,
+            not_next: 0,
         }
     }
 
-    /// Returns the set that holds only `guard`.
+    /// Whether the set is empty.
+    #[tactic(auto, unfolding(crate::specs::internal::GuardSets::has_none))]
+    pub(crate) fn is_empty(self) -> bool
+        ensures { result ≡ has_none self }
+    {
+        !self.start
+            && !self.line_start
+            && !self.line_end
+            && !self.text_end
+            && !self.word
+            && !self.ascii_word
+            && !self.not_word
+            && !self.not_ascii_word
+            && !self.some_before
+            && !self.some_next
+            && self.not_before == 0
+            && self.not_next == 0
+    }
+
+    /// Returns the set that holds only `guard`, a guard of the tree whose kinds are given. There must be at most
+    /// [`MOST_LETTERS`](rl_ranges::MOST_LETTERS) kinds.
     #[tactic(auto, unfolding(crate::specs::internal::GuardSets::only))]
-    pub(crate) fn only(guard: Guard) -> Guards
-        ensures { result ≡ only guard }
+    pub(crate) fn only(guard: &Guard, kinds: &Letters) -> Guards
+        requires { length kinds.now.samples ≤ MOST_LETTERS }
+        ensures { result ≡ only kinds.now guard.now }
     {
         let mut guards = Guards::none();
         match guard {
@@ -79,6 +117,28 @@ impl Guards {
             Guard::Word(true) => guards.ascii_word = true,
             Guard::NotWord(false) => guards.not_word = true,
             Guard::NotWord(true) => guards.not_ascii_word = true,
+            Guard::Look {
+                behind,
+                negated,
+                set,
+            } => return Guards::look(*behind, *negated, kinds_refused(*negated, set, kinds)),
+        }
+        guards
+    }
+
+    /// Returns the set that holds only a lookaround, which refuses the code that it looks at if the code is of one of the
+    /// kinds `refused`.
+    #[tactic(auto, unfolding(crate::specs::internal::GuardSets::look_only))]
+    fn look(behind: bool, negated: bool, refused: u128) -> Guards
+        ensures { result ≡ look_only behind negated refused }
+    {
+        let mut guards = Guards::none();
+        if behind {
+            guards.some_before = !negated;
+            guards.not_before = refused;
+        } else {
+            guards.some_next = !negated;
+            guards.not_next = refused;
         }
         guards
     }
@@ -97,6 +157,10 @@ impl Guards {
             ascii_word: self.ascii_word || other.ascii_word,
             not_word: self.not_word || other.not_word,
             not_ascii_word: self.not_ascii_word || other.not_ascii_word,
+            some_before: self.some_before || other.some_before,
+            some_next: self.some_next || other.some_next,
+            not_before: self.not_before | other.not_before,
+            not_next: self.not_next | other.not_next,
         }
     }
 
@@ -113,6 +177,10 @@ impl Guards {
             && (!self.ascii_word || holding.ascii_word)
             && (!self.not_word || holding.not_word)
             && (!self.not_ascii_word || holding.not_ascii_word)
+            && (!self.some_before || holding.some_before)
+            && (!self.some_next || holding.some_next)
+            && self.not_before & !holding.not_before == 0
+            && self.not_next & !holding.not_next == 0
     }
 
     /// Returns the guards that hold between the code before a position and the next code.
@@ -131,21 +199,41 @@ impl Guards {
             ascii_word: !same_ascii_word,
             not_word: same_word,
             not_ascii_word: same_ascii_word,
+            some_before: before.is_code,
+            some_next: next.is_code,
+            not_before: before.other_kinds,
+            not_next: next.other_kinds,
         }
     }
 }
 
+/// Returns the kinds that a lookaround of a set refuses, as bits: bit `k` is set if the lookaround doesn't hold where it looks
+/// at the sample code of the kind `k`. There must be at most [`MOST_LETTERS`](rl_ranges::MOST_LETTERS) kinds.
+fn kinds_refused(negated: bool, set: &CodeSet, kinds: &Letters) -> u128
+    requires { length kinds.now.samples ≤ MOST_LETTERS }
+    ensures { result ≡ kinds_refused negated (has set.now) kinds.now.samples }
+{
+    let mut refused = 0;
+    for kind in 0..kinds.count() {
+        if set.contains(kinds.sample(kind)) == negated {
+            refused |= 1 << kind;
+        }
+    }
+    refused
+}
+
 impl Shown {
     /// Returns what is shown if there is no code.
-    #[tactic(auto, unfolding(crate::specs::internal::GuardSets::shown))]
+    #[tactic(auto, unfolding(crate::specs::internal::GuardSets::nothing_shown))]
     pub(crate) fn nothing() -> Shown
-        ensures { result ≡ shown None }
+        ensures { result ≡ nothing_shown }
     {
         Shown {
             is_code: false,
             line_feed: false,
             word: false,
             ascii_word: false,
+            other_kinds: u128::MAX,
         }
     }
 }
@@ -165,18 +253,23 @@ impl Words {
         Ok(Words { all, ascii })
     }
 
-    /// Returns what a code shows. `self` must be made by [`Words::new`].
-    #[tactic(auto, unfolding(crate::specs::internal::GuardSets::shown))]
-    pub(crate) fn shown(&self, code: u32) -> Shown
+    /// Returns what a code shows, given the kinds of a tree. `self` must be made by [`Words::new`], and there must be at most
+    /// [`MOST_LETTERS`](rl_ranges::MOST_LETTERS) kinds.
+    #[tactic(auto, unfolding(crate::specs::internal::GuardSets::code_shown))]
+    pub(crate) fn shown(&self, kinds: &Letters, code: u32) -> Shown
         requires all { (c : ℕ) → has self.now.all c ≡ is_word false c }
         requires ascii { (c : ℕ) → has self.now.ascii c ≡ is_word true c }
-        ensures { result ≡ shown (Some code) }
+        requires few { length kinds.now.samples ≤ MOST_LETTERS }
+        requires code_in { code < kinds.now.codes }
+        ensures { result ≡ code_shown kinds.now code }
     {
+        let kind = kinds.letter_of(code);
         Shown {
             is_code: true,
             line_feed: code == 10,
             word: self.all.contains(code),
             ascii_word: self.ascii.contains(code),
+            other_kinds: !(1 << kind),
         }
     }
 }
