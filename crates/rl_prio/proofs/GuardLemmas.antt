@@ -1,11 +1,12 @@
 -- Lemmas on sets of guards: a set is met if each guard of its list holds.
-use Rattle.std.proofs.Common.{◌≡◌, ℕ, zero, suc, ◌+◌, ◌*◌, ◌/◌, ◌%◌, ◌^◌, ◌-◌, ◌<◌, ◌≤◌, Bool, true, false, not, ◌&&◌, ◌||◌, ◌==◌, List, [], ◌∷◌, ◌++◌, length, get_or, Option, None, Some, refl, sym, ap, ap₂, ◌∙◌, arith, ⊎_elim, if◌then◌else◌, max, min}
+use Rattle.std.proofs.Common.{◌≡◌, ℕ, zero, suc, ◌+◌, ◌*◌, ◌/◌, ◌%◌, ◌^◌, ◌-◌, ◌<◌, ◌≤◌, Bool, true, false, not, ◌&&◌, ◌||◌, ◌==◌, List, [], ◌∷◌, ◌++◌, length, get_or, take, Option, None, Some, refl, sym, ap, ap₂, ◌∙◌, arith, ⊎_elim, if◌then◌else◌, max, min}
 use Rattle.std.specs.Int.{w128, bit_not, bit_at}
 use Rattle.std.specs.Int.Bits.{bit_and, bit_or}
 use Rattle.std.proofs.Math.Bool.{beq}
-use Rattle.std.proofs.lemmas.Nat.{and_le_l, and_le_r, le_or_l, le_or_r, pow_below}
+use Rattle.std.proofs.lemmas.List.{take_more, length-take-le}
+use Rattle.std.proofs.lemmas.Nat.{and_le_l, and_le_r, le_or_l, le_or_r, or_comm, or_shifted, one_shl, pow_below}
 use Rattle.std.proofs.lemmas.Nat.Bits.{bit_at-zero, bit_at_and, bit_at_or, bit_at-lt, same_from_bits, bit_at_lowest, bit_at-suc, and_pow}
-use Rattle.std.proofs.lemmas.Bool.{false≢true, and_parts, and_from, cases_eq, eq-eqb, ne_eqb, eqb-true}
+use Rattle.std.proofs.lemmas.Bool.{false≢true, and_parts, and_from, cases_eq, cond-true, cond-false, eq-eqb, ne_eqb, eqb-true}
 use Rattle.rl_ranges.specs.Codes.{has}
 use Rattle.rl_ranges.specs.Letters.{LetterTable, IsLetters, alike, class_of, letter_at}
 use Rattle.rl_ranges.specs.declared.letters.TheConstants.{MOST_LETTERS}
@@ -238,6 +239,82 @@ refused-bit negated set (c ∷ kinds) (suc k) lt =
     later_bits true m = omega arith
     later_bits false m = omega arith
 
+-- One kind more: it has the highest bit.
+refused-below : (negated : Bool) (set : ℕ → Bool) (kinds : List ℕ) → kinds_refused negated set kinds < 2 ^ length kinds
+refused-below negated set [] = omega arith
+refused-below negated set (c ∷ kinds) = at_most (sees negated set (Some c)) (refused-below negated set kinds)
+  where
+    at_most : (b : Bool) → kinds_refused negated set kinds < 2 ^ length kinds → (if b then 0 else 1) + 2 * kinds_refused negated set kinds < 2 ^ suc (length kinds)
+    at_most true lt = omega arith
+    at_most false lt = omega arith
+
+refused-append : (negated : Bool) (set : ℕ → Bool) (kinds : List ℕ) (c : ℕ)
+    → kinds_refused negated set (kinds ++ c ∷ []) ≡ kinds_refused negated set kinds + (if sees negated set (Some c) then 0 else 2 ^ length kinds)
+refused-append negated set [] c = last_one (sees negated set (Some c))
+  where
+    last_one : (b : Bool) → (if b then 0 else 1) + 2 * 0 ≡ 0 + (if b then 0 else 2 ^ 0)
+    last_one true = omega arith
+    last_one false = omega arith
+refused-append negated set (x ∷ kinds) c =
+    ap (λ n. (if sees negated set (Some x) then 0 else 1) + 2 * n) (refused-append negated set kinds c)
+    ∙ doubled (sees negated set (Some c)) (if sees negated set (Some x) then 0 else 1) (kinds_refused negated set kinds) (length kinds)
+  where
+    twice_power : (k : ℕ) → 2 ^ suc k ≡ 2 * 2 ^ k
+    twice_power k = omega arith
+    grows : (first m x y : ℕ) → y ≡ 2 * x → first + 2 * (m + x) ≡ first + 2 * m + y
+    grows first m x y e = omega (arith, e)
+    doubled : (b : Bool) (first m k : ℕ) → first + 2 * (m + (if b then 0 else 2 ^ k)) ≡ first + 2 * m + (if b then 0 else 2 ^ suc k)
+    doubled true first m k = omega arith
+    doubled false first m k = grows first m (2 ^ k) (2 ^ suc k) (twice_power k)
+
+pub refused_more : (negated : Bool) (set : ℕ → Bool) (kinds : List ℕ) (k d : ℕ) → k < length kinds
+    → kinds_refused negated set (take (k + 1) kinds) ≡ kinds_refused negated set (take k kinds) + (if sees negated set (Some (get_or kinds k d)) then 0 else 2 ^ k)
+refused_more negated set kinds k d lt =
+    let size : length (take k kinds) ≡ k = length-take-le k kinds (omega arith) in
+    ap (kinds_refused negated set) (take_more kinds k d lt) ∙ refused-append negated set (take k kinds) (get_or kinds k d)
+    ∙ ap (λ n. kinds_refused negated set (take k kinds) + (if sees negated set (Some (get_or kinds k d)) then 0 else 2 ^ n)) size
+
+-- The bit of the kind is put to those of the kinds before.
+pub refused-put : (negated : Bool) (set : ℕ → Bool) (kinds : List ℕ) (k d old new : ℕ) → k < length kinds → k < 128 → old ≡ kinds_refused negated set (take k kinds)
+    → new ≡ bit_or old (1 * 2 ^ k % 2 ^ 128) → sees negated set (Some (get_or kinds k d)) ≡ false → new ≡ kinds_refused negated set (take (k + 1) kinds)
+refused-put negated set kinds k d old new lt small so_far is refuses =
+    let size : length (take k kinds) ≡ k = length-take-le k kinds (omega arith) in
+    let below : old < 2 ^ k = omega (arith, so_far, refused-below negated set (take k kinds), ap (λ n. 2 ^ n) size) in
+    let one_bit : bit_or old (1 * 2 ^ k % 2 ^ 128) ≡ 1 * 2 ^ k + old =
+    ap (bit_or old) (one_shl k 128 small) ∙ or_comm old (2 ^ k) ∙ ap (λ x. bit_or x old) (sym one_times) ∙ or_shifted 1 k old below in
+    is ∙ one_bit
+    ∙ omega (
+      arith,
+      so_far,
+      refused_more negated set kinds k d lt,
+      cond-false (sees negated set (Some (get_or kinds k d))) 0 (2 ^ k) refuses,
+    )
+  where
+    one_times : 1 * 2 ^ k ≡ 2 ^ k
+    one_times = omega arith
+
+pub refused-kept : (negated : Bool) (set : ℕ → Bool) (kinds : List ℕ) (k d old : ℕ) → k < length kinds → old ≡ kinds_refused negated set (take k kinds)
+    → sees negated set (Some (get_or kinds k d)) ≡ true → old ≡ kinds_refused negated set (take (k + 1) kinds)
+refused-kept negated set kinds k d old lt so_far holds =
+    omega (arith, so_far, refused_more negated set kinds k d lt, cond-true (sees negated set (Some (get_or kinds k d))) 0 (2 ^ k) holds)
+
+-- Whether a lookaround holds where a code is, by what its set says of the code.
+pub sees-not : (negated found : Bool) (set : ℕ → Bool) (c : ℕ) → found ≡ set c → beq found negated ≡ true → sees negated set (Some c) ≡ false
+unfolding sees is_in
+sees-not false found set c is e = sym is ∙ beq-true found false e
+sees-not true found set c is e = ap not (sym is ∙ beq-true found true e)
+
+pub sees-so : (negated found : Bool) (set : ℕ → Bool) (c : ℕ) → found ≡ set c → beq found negated ≡ false → sees negated set (Some c) ≡ true
+unfolding sees is_in
+sees-so false true set c is e = sym is
+sees-so false false set c is e = absurd (false≢true (sym e))
+sees-so true true set c is e = absurd (false≢true (sym e))
+sees-so true false set c is e = ap not (sym is)
+
+some_power : (j : ℕ) → 0 < 2 ^ j
+some_power zero = omega arith
+some_power (suc j) = omega (arith, some_power j)
+
 -- The kinds apart from the kind `k`, and all kinds.
 within_others : (m k : ℕ) (b : Bool) → k < 128 → bit_at m k ≡ (if b then 0 else 1) → within m (bit_not w128 (2 ^ k)) ≡ b
 within_others m k b lt is =
@@ -248,9 +325,6 @@ within_others m k b lt is =
     bit_is : (b : Bool) → bit_at m k ≡ (if b then 0 else 1) → (bit_at m k * 2 ^ k == 0) ≡ b
     bit_is true e = eq-eqb (bit_at m k * 2 ^ k) 0 (ap (λ x. x * 2 ^ k) e ∙ omega arith)
     bit_is false e = ne_eqb (bit_at m k * 2 ^ k) 0 (λ z. absurd (omega (arith, z, ap (λ x. x * 2 ^ k) e, some_power k)))
-    some_power : (j : ℕ) → 0 < 2 ^ j
-    some_power zero = omega arith
-    some_power (suc j) = omega (arith, some_power j)
 
 within_all : (m : ℕ) → within m (2 ^ 128 - 1) ≡ true
 within_all m =
@@ -265,7 +339,7 @@ Below n (Some c) = c < n
 -- What the kinds of a tree say of its guards.
 module _ (kinds : LetterTable) (sets : List (ℕ → Bool)) (n : ℕ) (are : IsLetters kinds sets n) (few : length kinds.samples ≤ MOST_LETTERS) where
   -- The sample of a code's kind.
-  sample : ℕ → ℕ
+  abbrev sample : ℕ → ℕ
   sample c = get_or kinds.samples (letter_at kinds c) 0
 
   kind_in : (c : ℕ) → c < n → letter_at kinds c < length kinds.samples
