@@ -16,8 +16,9 @@ use Rattle.rl_syntax.specs.declared.anchors.Guard.{Guard}
 use Rattle.rl_syntax.specs.declared.anchors.Guard.TheVariants.{Start, LineStart, LineEnd, TextEnd, Word, NotWord, Look}
 use Rattle.rl_syntax.specs.Guards.{is_in, sees, holds, sets_named}
 use Rattle.rl_prio.specs.Items.{all_hold}
-use Rattle.rl_prio.specs.internal.GuardSets.{no_guards, has_none, only, look_only, kinds_refused, joined, guard_set, met, within, shown, nothing_shown, code_shown, holding}
+use Rattle.rl_prio.specs.internal.GuardSets.{no_looks, requires_none, one_look, looks_joined, looks_met, looks_holding, kinds_refused, within, no_guards, has_none, only, joined, guard_set, flags_met, met, shown, nothing_shown, code_shown, holding}
 use Rattle.rl_prio.specs.declared.build.guards.Guards.{Guards}
+use Rattle.rl_prio.specs.declared.build.guards.Looks.{Looks}
 use Rattle.rl_prio.proofs.LikenessLemmas.{Finer, GuardsKnown}
 
 -- ---- sets of kinds
@@ -54,13 +55,26 @@ no_bits x y = ⊎_elim
 
 -- ---- the empty set, and unions
 
+looks_joined-none : (a : Looks) → looks_joined no_looks a ≡ a
+unfolding looks_joined no_looks
+looks_joined-none a = λ i. record a { not_before = or_zero a.not_before i; not_next = or_zero a.not_next i }
+
 pub joined-none : (a : Guards) → joined no_guards a ≡ a
 unfolding joined no_guards
-joined-none a = λ i. record a { not_before = or_zero a.not_before i; not_next = or_zero a.not_next i }
+joined-none a = λ i. record a { looks = looks_joined-none a.looks i }
 
 or_false : (x : Bool) → (x || false) ≡ x
 or_false true = refl
 or_false false = refl
+
+looks_joined_with_none : (a : Looks) → looks_joined a no_looks ≡ a
+unfolding looks_joined no_looks
+looks_joined_with_none a = λ i. record {
+  some_before = or_false a.some_before i;
+  some_next = or_false a.some_next i;
+  not_before = zero_or a.not_before i;
+  not_next = zero_or a.not_next i;
+}
 
 pub joined_with_none : (a : Guards) → joined a no_guards ≡ a
 unfolding joined no_guards
@@ -73,10 +87,16 @@ joined_with_none a = λ i. record {
   ascii_word = or_false a.ascii_word i;
   not_word = or_false a.not_word i;
   not_ascii_word = or_false a.not_ascii_word i;
-  some_before = or_false a.some_before i;
-  some_next = or_false a.some_next i;
-  not_before = zero_or a.not_before i;
-  not_next = zero_or a.not_next i;
+  looks = looks_joined_with_none a.looks i;
+}
+
+looks_joined_assoc : (a b c : Looks) → looks_joined (looks_joined a b) c ≡ looks_joined a (looks_joined b c)
+unfolding looks_joined
+looks_joined_assoc a b c = λ i. record {
+  some_before = sym (or_assoc a.some_before b.some_before c.some_before) i;
+  some_next = sym (or_assoc a.some_next b.some_next c.some_next) i;
+  not_before = or_of_three a.not_before b.not_before c.not_before i;
+  not_next = or_of_three a.not_next b.not_next c.not_next i;
 }
 
 pub joined_assoc : (a b c : Guards) → joined (joined a b) c ≡ joined a (joined b c)
@@ -90,10 +110,7 @@ joined_assoc a b c = λ i. record {
   ascii_word = sym (or_assoc a.ascii_word b.ascii_word c.ascii_word) i;
   not_word = sym (or_assoc a.not_word b.not_word c.not_word) i;
   not_ascii_word = sym (or_assoc a.not_ascii_word b.not_ascii_word c.not_ascii_word) i;
-  some_before = sym (or_assoc a.some_before b.some_before c.some_before) i;
-  some_next = sym (or_assoc a.some_next b.some_next c.some_next) i;
-  not_before = or_of_three a.not_before b.not_before c.not_before i;
-  not_next = or_of_three a.not_next b.not_next c.not_next i;
+  looks = looks_joined_assoc a.looks b.looks c.looks i;
 }
 
 pub guard_set-append : (kinds : LetterTable) (gs hs : List Guard) → guard_set kinds (gs ++ hs) ≡ joined (guard_set kinds gs) (guard_set kinds hs)
@@ -106,9 +123,13 @@ only-joined kinds g = joined_with_none (only kinds g)
 none_within : (h : ℕ) → within 0 h ≡ true
 none_within h = eq-eqb (bit_and 0 (bit_not w128 h)) 0 (and_zero (bit_not w128 h))
 
+no_looks-met : (h : Looks) → looks_met no_looks h ≡ true
+unfolding looks_met no_looks
+no_looks-met h = ap₂ (λ x y. x && y) (none_within h.not_before) (none_within h.not_next)
+
 none-met : (h : Guards) → met no_guards h ≡ true
-unfolding met no_guards
-none-met h = ap₂ (λ x y. x && y) (none_within h.not_before) (none_within h.not_next)
+unfolding met flags_met no_guards
+none-met h = no_looks-met h.looks
 
 either_flag : (x y z : Bool) → (not (x || y) || z) ≡ ((not x || z) && (not y || z))
 either_flag true true true = refl
@@ -138,10 +159,19 @@ split_kinds x y z = record {
   same = ap (λ n. n == 0) (and_of_or x y (bit_not w128 z)) ∙ no_bits (bit_and x (bit_not w128 z)) (bit_and y (bit_not w128 z));
 }
 
+split_looks : (a b h : Looks) → Splits (looks_met (looks_joined a b) h) (looks_met a h) (looks_met b h)
+unfolding looks_met looks_joined
+split_looks a b h =
+    step (step (step
+    (split a.some_before b.some_before h.some_before)
+    (split a.some_next b.some_next h.some_next))
+    (split_kinds a.not_before b.not_before h.not_before))
+    (split_kinds a.not_next b.not_next h.not_next)
+
 met-joined : (a b h : Guards) → met (joined a b) h ≡ (met a h && met b h)
-unfolding met joined
+unfolding met flags_met joined
 met-joined a b h =
-    (step (step (step (step (step (step (step (step (step (step (step
+    (step (step (step (step (step (step (step (step
     (split a.start b.start h.start)
     (split a.line_start b.line_start h.line_start))
     (split a.line_end b.line_end h.line_end))
@@ -150,10 +180,7 @@ met-joined a b h =
     (split a.ascii_word b.ascii_word h.ascii_word))
     (split a.not_word b.not_word h.not_word))
     (split a.not_ascii_word b.not_ascii_word h.not_ascii_word))
-    (split a.some_before b.some_before h.some_before))
-    (split a.some_next b.some_next h.some_next))
-    (split_kinds a.not_before b.not_before h.not_before))
-    (split_kinds a.not_next b.not_next h.not_next)).same
+    (split_looks a.looks b.looks h.looks)).same
 
 -- A test that holds says that another one holds.
 record Gives (m k : Bool) : Type 0 where
@@ -171,11 +198,20 @@ both_unguarded {m = m} {k = k} {u = u} {v = v} p q = record {
   true_too = λ e. let parts = and_parts m k e in and_from u v (p.true_too parts.0) (q.true_too parts.1);
 }
 
+looks-unguarded : (a h : Looks) → Gives (requires_none a) (looks_met a h)
+unfolding requires_none looks_met
+looks-unguarded a h =
+    both_unguarded (both_unguarded (both_unguarded
+    (flag-unguarded a.some_before h.some_before)
+    (flag-unguarded a.some_next h.some_next))
+    (kinds-unguarded a.not_before h.not_before))
+    (kinds-unguarded a.not_next h.not_next)
+
 -- No guard is always met.
 pub unguarded-met : (a h : Guards) → has_none a ≡ true → met a h ≡ true
-unfolding met has_none
+unfolding met flags_met has_none
 unguarded-met a h =
-    (both_unguarded (both_unguarded (both_unguarded (both_unguarded (both_unguarded (both_unguarded (both_unguarded (both_unguarded (both_unguarded (both_unguarded (both_unguarded
+    (both_unguarded (both_unguarded (both_unguarded (both_unguarded (both_unguarded (both_unguarded (both_unguarded (both_unguarded
     (flag-unguarded a.start h.start)
     (flag-unguarded a.line_start h.line_start))
     (flag-unguarded a.line_end h.line_end))
@@ -184,10 +220,7 @@ unguarded-met a h =
     (flag-unguarded a.ascii_word h.ascii_word))
     (flag-unguarded a.not_word h.not_word))
     (flag-unguarded a.not_ascii_word h.not_ascii_word))
-    (flag-unguarded a.some_before h.some_before))
-    (flag-unguarded a.some_next h.some_next))
-    (kinds-unguarded a.not_before h.not_before))
-    (kinds-unguarded a.not_next h.not_next)).true_too
+    (looks-unguarded a.looks h.looks)).true_too
 
 -- ---- one guard
 
@@ -201,23 +234,23 @@ flag kinds (Word false) h = h.word
 flag kinds (Word true) h = h.ascii_word
 flag kinds (NotWord false) h = h.not_word
 flag kinds (NotWord true) h = h.not_ascii_word
-flag kinds (Look true negated ranges) h = (negated || h.some_before) && within (kinds_refused negated (has ranges) kinds.samples) h.not_before
-flag kinds (Look false negated ranges) h = (negated || h.some_next) && within (kinds_refused negated (has ranges) kinds.samples) h.not_next
+flag kinds (Look true negated ranges) h = (negated || h.looks.some_before) && within (kinds_refused negated (has ranges) kinds.samples) h.looks.not_before
+flag kinds (Look false negated ranges) h = (negated || h.looks.some_next) && within (kinds_refused negated (has ranges) kinds.samples) h.looks.not_next
 
 twice_not : (x z : Bool) → (not (not x) || z) ≡ (x || z)
 twice_not true z = refl
 twice_not false z = refl
 
 one-met : (kinds : LetterTable) (g : Guard) (h : Guards) → met (only kinds g) h ≡ flag kinds g h
-unfolding met only look_only no_guards
-one-met kinds Start h = simp (and-true, none_within)
-one-met kinds LineStart h = simp (and-true, none_within)
-one-met kinds LineEnd h = simp (and-true, none_within)
-one-met kinds TextEnd h = simp (and-true, none_within)
-one-met kinds (Word false) h = simp (and-true, none_within)
-one-met kinds (Word true) h = simp (and-true, none_within)
-one-met kinds (NotWord false) h = simp (and-true, none_within)
-one-met kinds (NotWord true) h = simp (and-true, none_within)
+unfolding met flags_met only one_look no_guards looks_met no_looks
+one-met kinds Start h = simp and-true
+one-met kinds LineStart h = simp and-true
+one-met kinds LineEnd h = simp and-true
+one-met kinds TextEnd h = simp and-true
+one-met kinds (Word false) h = simp and-true
+one-met kinds (Word true) h = simp and-true
+one-met kinds (NotWord false) h = simp and-true
+one-met kinds (NotWord true) h = simp and-true
 one-met kinds (Look true negated ranges) h = simp (and-true, none_within, twice_not)
 one-met kinds (Look false negated ranges) h = simp (and-true, none_within, twice_not)
 
@@ -378,7 +411,7 @@ module _ (kinds : LetterTable) (sets : List (ℕ → Bool)) (n : ℕ) (are : IsL
   sees-some false set c finer lt = sees-code false set c finer lt
 
   flag-holds : (g : Guard) (b d : Option ℕ) → Finer sets (sets_named g) → Below n b → Below n d → flag kinds g (holding (shown kinds b) (shown kinds d)) ≡ holds g b d
-  unfolding holding nothing_shown code_shown holds is_in
+  unfolding holding looks_holding nothing_shown code_shown holds is_in
   flag-holds Start None d f p q = refl
   flag-holds Start (Some c) d f p q = refl
   flag-holds LineStart None d f p q = refl

@@ -5,7 +5,7 @@ ghost use Rattle.rl_syntax.specs.Guards.{is_word};
 ghost use Rattle.rl_ranges.specs.Codes.{has};
 ghost use Rattle.rl_ranges.specs.Letters.{letter_at};
 ghost use Rattle.rl_ranges.specs.declared.letters.TheConstants.{MOST_LETTERS};
-ghost use Rattle.rl_prio.specs.internal.GuardSets.{no_guards, only, look_only, has_none, joined, met, kinds_refused, nothing_shown, code_shown, holding};
+ghost use Rattle.rl_prio.specs.internal.GuardSets.{no_looks, requires_none, one_look, looks_joined, looks_met, looks_holding, kinds_refused, no_guards, has_none, only, joined, flags_met, met, nothing_shown, code_shown, holding};
 
 use rl_lists::OutOfMemory;
 use rl_ranges::{CodeSet, Letters, Named, Universe};
@@ -13,8 +13,7 @@ use rl_syntax::Guard;
 use std::alloc::Global;
 
 /// A set of guards, as a flag for each guard: `true` if the set holds it. `word` and `not_word` are the word boundaries `\b`
-/// and `\B` by Unicode, `ascii_word` and `not_ascii_word` those by ASCII. The last four fields are the lookarounds, taken
-/// apart: what they require of the code before a position and of the next one.
+/// and `\B` by Unicode, `ascii_word` and `not_ascii_word` those by ASCII. Of the lookarounds the set has what they require.
 #[derive(Clone, Copy)]
 pub(crate) struct Guards {
     start: bool,
@@ -25,13 +24,20 @@ pub(crate) struct Guards {
     ascii_word: bool,
     not_word: bool,
     not_ascii_word: bool,
-    /// There is a code before.
+    looks: Looks,
+}
+
+/// What lookarounds require of the code before a position and of the next code. Kinds are given as bits: bit `k` stands for the
+/// kind `k`.
+#[derive(Clone, Copy)]
+struct Looks {
+    /// Whether there has to be a code before.
     some_before: bool,
-    /// There is a next code.
+    /// Whether there has to be a next code.
     some_next: bool,
-    /// The code before isn't of these kinds: bit `k` stands for the kind `k`.
+    /// The kinds that the code before must not have.
     not_before: u128,
-    /// The next code isn't of these kinds.
+    /// The kinds that the next code must not have.
     not_next: u128,
 }
 
@@ -74,10 +80,7 @@ impl Guards {
             ascii_word: false,
             not_word: false,
             not_ascii_word: false,
-            some_before: false,
-            some_next: false,
-            not_before: 0,
-            not_next: 0,
+            looks: Looks::none(),
         }
     }
 
@@ -94,10 +97,7 @@ impl Guards {
             && !self.ascii_word
             && !self.not_word
             && !self.not_ascii_word
-            && !self.some_before
-            && !self.some_next
-            && self.not_before == 0
-            && self.not_next == 0
+            && self.looks.are_none()
     }
 
     /// Returns the set that holds only `guard`, a guard of the tree whose kinds are given. There must be at most
@@ -121,24 +121,7 @@ impl Guards {
                 behind,
                 negated,
                 set,
-            } => return Guards::look(*behind, *negated, kinds_refused(*negated, set, kinds)),
-        }
-        guards
-    }
-
-    /// Returns the set that holds only a lookaround, which refuses the code that it looks at if the code is of one of the
-    /// kinds `refused`.
-    #[tactic(auto, unfolding(crate::specs::internal::GuardSets::look_only))]
-    fn look(behind: bool, negated: bool, refused: u128) -> Guards
-        ensures { result ≡ look_only behind negated refused }
-    {
-        let mut guards = Guards::none();
-        if behind {
-            guards.some_before = !negated;
-            guards.not_before = refused;
-        } else {
-            guards.some_next = !negated;
-            guards.not_next = refused;
+            } => guards.looks = Looks::one(*behind, *negated, kinds_refused(*negated, set, kinds)),
         }
         guards
     }
@@ -157,10 +140,7 @@ impl Guards {
             ascii_word: self.ascii_word || other.ascii_word,
             not_word: self.not_word || other.not_word,
             not_ascii_word: self.not_ascii_word || other.not_ascii_word,
-            some_before: self.some_before || other.some_before,
-            some_next: self.some_next || other.some_next,
-            not_before: self.not_before | other.not_before,
-            not_next: self.not_next | other.not_next,
+            looks: self.looks.join(other.looks),
         }
     }
 
@@ -168,6 +148,14 @@ impl Guards {
     #[tactic(auto, unfolding(crate::specs::internal::GuardSets::met))]
     pub(crate) fn are_met(self, holding: Guards) -> bool
         ensures { result ≡ met self holding }
+    {
+        self.flags_are_met(holding) && self.looks.are_met(holding.looks)
+    }
+
+    /// Whether every guard of the set that isn't a lookaround is among the guards in `holding`.
+    #[tactic(auto, unfolding(crate::specs::internal::GuardSets::flags_met))]
+    fn flags_are_met(self, holding: Guards) -> bool
+        ensures { result ≡ flags_met self holding }
     {
         (!self.start || holding.start)
             && (!self.line_start || holding.line_start)
@@ -177,10 +165,6 @@ impl Guards {
             && (!self.ascii_word || holding.ascii_word)
             && (!self.not_word || holding.not_word)
             && (!self.not_ascii_word || holding.not_ascii_word)
-            && (!self.some_before || holding.some_before)
-            && (!self.some_next || holding.some_next)
-            && self.not_before & !holding.not_before == 0
-            && self.not_next & !holding.not_next == 0
     }
 
     /// Returns the guards that hold between the code before a position and the next code.
@@ -199,6 +183,80 @@ impl Guards {
             ascii_word: !same_ascii_word,
             not_word: same_word,
             not_ascii_word: same_ascii_word,
+            looks: Looks::holding(before, next),
+        }
+    }
+}
+
+impl Looks {
+    /// Returns what no lookaround requires: nothing.
+    #[tactic(auto, unfolding(crate::specs::internal::GuardSets::no_looks))]
+    fn none() -> Looks
+        ensures { result ≡ no_looks }
+    {
+        Looks {
+            some_before: false,
+            some_next: false,
+            not_before: 0,
+            not_next: 0,
+        }
+    }
+
+    /// Whether nothing is required.
+    #[tactic(auto, unfolding(crate::specs::internal::GuardSets::requires_none))]
+    fn are_none(self) -> bool
+        ensures { result ≡ requires_none self }
+    {
+        !self.some_before && !self.some_next && self.not_before == 0 && self.not_next == 0
+    }
+
+    /// Returns what a lookaround requires that refuses codes of the kinds `refused`. Unless it is negated, there has to be a
+    /// code.
+    #[tactic(auto, unfolding(crate::specs::internal::GuardSets::one_look))]
+    fn one(behind: bool, negated: bool, refused: u128) -> Looks
+        ensures { result ≡ one_look behind negated refused }
+    {
+        let mut looks = Looks::none();
+        if behind {
+            looks.some_before = !negated;
+            looks.not_before = refused;
+        } else {
+            looks.some_next = !negated;
+            looks.not_next = refused;
+        }
+        looks
+    }
+
+    /// Returns what both require together.
+    #[tactic(auto, unfolding(crate::specs::internal::GuardSets::looks_joined))]
+    fn join(self, other: Looks) -> Looks
+        ensures { result ≡ looks_joined self other }
+    {
+        Looks {
+            some_before: self.some_before || other.some_before,
+            some_next: self.some_next || other.some_next,
+            not_before: self.not_before | other.not_before,
+            not_next: self.not_next | other.not_next,
+        }
+    }
+
+    /// Whether all that is required is part of `holding`.
+    #[tactic(auto, unfolding(crate::specs::internal::GuardSets::looks_met))]
+    fn are_met(self, holding: Looks) -> bool
+        ensures { result ≡ looks_met self holding }
+    {
+        (!self.some_before || holding.some_before)
+            && (!self.some_next || holding.some_next)
+            && self.not_before & !holding.not_before == 0
+            && self.not_next & !holding.not_next == 0
+    }
+
+    /// Returns all that the code before a position and the next code meet.
+    #[tactic(auto, unfolding(crate::specs::internal::GuardSets::looks_holding))]
+    fn holding(before: Shown, next: Shown) -> Looks
+        ensures { result ≡ looks_holding before next }
+    {
+        Looks {
             some_before: before.is_code,
             some_next: next.is_code,
             not_before: before.other_kinds,

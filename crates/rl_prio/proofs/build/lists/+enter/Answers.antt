@@ -11,7 +11,7 @@ returns-in-Empty-clause-ok t c =
 
 pub returns-in-Guard-clause-ok : goal.returns-in-Guard-clause-ok
 returns-in-Guard-clause-ok t c =
-    rw c.in-Guard.is (IfOk-weaker c.single-in-Guard.result _ _ (λ l is. entered-guard c.args.kinds.now c.in-Guard.guard.now c.args.lists.now.items l (is ∙ ap (λ x. End x ∷ []) c.only.ensures)) c.single-in-Guard.ensures.list)
+    rw c.in-Guard.is (IfOk-weaker c.single-in-Guard.result _ _ (λ l is. entered-guard c.args.kinds.now c.in-Guard.guard c.args.lists.now.items l (is ∙ ap (λ x. End x ∷ []) c.only.ensures)) c.single-in-Guard.ensures.list)
 
 pub returns-in_err-list-in-Both-clause-moves : goal.returns-in_err-list-in-Both-clause-moves
 returns-in_err-list-in-Both-clause-moves t c =
