@@ -132,14 +132,14 @@ impl Guards {
         ensures { result ≡ joined self other }
     {
         Guards {
-            start: self.start || other.start,
-            line_start: self.line_start || other.line_start,
-            line_end: self.line_end || other.line_end,
-            text_end: self.text_end || other.text_end,
-            word: self.word || other.word,
-            ascii_word: self.ascii_word || other.ascii_word,
-            not_word: self.not_word || other.not_word,
-            not_ascii_word: self.not_ascii_word || other.not_ascii_word,
+            start: self.start | other.start,
+            line_start: self.line_start | other.line_start,
+            line_end: self.line_end | other.line_end,
+            text_end: self.text_end | other.text_end,
+            word: self.word | other.word,
+            ascii_word: self.ascii_word | other.ascii_word,
+            not_word: self.not_word | other.not_word,
+            not_ascii_word: self.not_ascii_word | other.not_ascii_word,
             looks: self.looks.join(other.looks),
         }
     }
@@ -233,8 +233,8 @@ impl Looks {
         ensures { result ≡ looks_joined self other }
     {
         Looks {
-            some_before: self.some_before || other.some_before,
-            some_next: self.some_next || other.some_next,
+            some_before: self.some_before | other.some_before,
+            some_next: self.some_next | other.some_next,
             not_before: self.not_before | other.not_before,
             not_next: self.not_next | other.not_next,
         }
