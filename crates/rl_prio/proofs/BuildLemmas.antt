@@ -36,7 +36,6 @@ use Rattle.rl_prio.specs.Errors.{letters_error}
 use Rattle.rl_prio.specs.internal.Errors.{list_error}
 use Rattle.rl_prio.proofs.AutomatonLemmas.{automaton_of, moves_at-inside}
 use Rattle.rl_prio.proofs.LikenessLemmas.{Finer, Finer-itself, Finer-left, Finer-right, Like, Like-finer, all_hold-like, ItemsKnown, first-known, after-known, set_of-alike}
-use Rattle.rl_prio.proofs.KindLemmas.{kinds_of_letters}
 use Rattle.rl_prio.proofs.GuardLemmas.{Below, met-all_hold}
 use Rattle.rl_prio.proofs.WidthLemmas.{length-lists_of, lists-at}
 use Rattle.rl_prio.proofs.PlanLemmas.{place_state}

@@ -1,14 +1,14 @@
 -- Lemmas on sets of guards: a set is met if each guard of its list holds.
-use Rattle.std.proofs.Common.{◌≡◌, ℕ, zero, suc, ◌+◌, ◌*◌, ◌/◌, ◌%◌, ◌^◌, ◌-◌, ◌<◌, ◌≤◌, Bool, true, false, not, ◌&&◌, ◌||◌, ◌==◌, List, [], ◌∷◌, ◌++◌, length, get_or, take, Option, None, Some, refl, sym, ap, ap₂, ◌∙◌, arith, ⊎_elim, if◌then◌else◌, max, min}
+use Rattle.std.proofs.Common.{◌≡◌, ℕ, zero, suc, ◌+◌, ◌*◌, ◌/◌, ◌%◌, ◌^◌, ◌-◌, ◌<◌, ◌≤◌, Bool, true, false, not, ◌&&◌, ◌||◌, ◌==◌, List, [], ◌∷◌, ◌++◌, length, get_or, take, Option, None, Some, refl, sym, ap, ap₂, ◌∙◌, arith, ⊎_elim, if◌then◌else◌}
 use Rattle.std.specs.Int.{w128, bit_not, bit_at}
 use Rattle.std.specs.Int.Bits.{bit_and, bit_or}
 use Rattle.std.proofs.Math.Bool.{beq}
 use Rattle.std.proofs.lemmas.List.{take_more, length-take-le}
 use Rattle.std.proofs.lemmas.Nat.{and_le_l, and_le_r, le_or_l, le_or_r, or_comm, or_shifted, one_shl, pow_below}
-use Rattle.std.proofs.lemmas.Nat.Bits.{bit_at-zero, bit_at_and, bit_at_or, bit_at-lt, same_from_bits, bit_at_lowest, bit_at-suc, and_pow}
+use Rattle.std.proofs.lemmas.Nat.Bits.{bit_at-zero, bit_at_and, bit_at_or, same_from_bits, bit_at_lowest, bit_at-suc, and_pow}
 use Rattle.std.proofs.lemmas.Bool.{false≢true, and_parts, and_from, cases_eq, cond-true, cond-false, eq-eqb, ne_eqb, eqb-true}
 use Rattle.rl_ranges.specs.Codes.{has}
-use Rattle.rl_ranges.specs.Letters.{LetterTable, IsLetters, alike, class_of, letter_at}
+use Rattle.rl_ranges.specs.Letters.{LetterTable, IsLetters, alike, letter_at}
 use Rattle.rl_ranges.specs.declared.letters.TheConstants.{MOST_LETTERS}
 use Rattle.rl_ranges.proofs.LetterLemmas.{beq-true, class_of-only, class_of-lt}
 use Rattle.rl_ranges.proofs.SetLemmas.{or_assoc, and-true}
@@ -294,8 +294,10 @@ refused-append negated set (x ∷ kinds) c =
   where
     twice_power : (k : ℕ) → 2 ^ suc k ≡ 2 * 2 ^ k
     twice_power k = omega arith
+
     grows : (first m x y : ℕ) → y ≡ 2 * x → first + 2 * (m + x) ≡ first + 2 * m + y
     grows first m x y e = omega (arith, e)
+
     doubled : (b : Bool) (first m k : ℕ) → first + 2 * (m + (if b then 0 else 2 ^ k)) ≡ first + 2 * m + (if b then 0 else 2 ^ suc k)
     doubled true first m k = omega arith
     doubled false first m k = grows first m (2 ^ k) (2 ^ suc k) (twice_power k)
@@ -355,6 +357,7 @@ within_others m k b lt is =
   where
     twice : (x : ℕ) → x < 2 ^ 128 → bit_not w128 (bit_not w128 x) ≡ x
     twice x small = omega arith
+
     bit_is : (b : Bool) → bit_at m k ≡ (if b then 0 else 1) → (bit_at m k * 2 ^ k == 0) ≡ b
     bit_is true e = eq-eqb (bit_at m k * 2 ^ k) 0 (ap (λ x. x * 2 ^ k) e ∙ omega arith)
     bit_is false e = ne_eqb (bit_at m k * 2 ^ k) 0 (λ z. absurd (omega (arith, z, ap (λ x. x * 2 ^ k) e, some_power k)))
@@ -389,6 +392,7 @@ module _ (kinds : LetterTable) (sets : List (ℕ → Bool)) (n : ℕ) (are : IsL
     where
       same : set (sample c) ≡ set c
       same = beq-true (set (sample c)) (set c) (and_parts (beq (set (sample c)) (set c)) true (finer (sample c) c (sample-alike c lt))).0
+
       both_ways : (b : Bool) → sees b set (Some (sample c)) ≡ sees b set (Some c)
       both_ways false = same
       both_ways true = ap not same

@@ -20,9 +20,8 @@ mod plan;
 mod sets;
 mod shared;
 
-pub use crate::build::sets::add_guard_sets;
-
 use crate::build::attempts::ListError;
+pub use crate::build::sets::add_guard_sets;
 use crate::build::sets::add_sets;
 use crate::build::shared::shared;
 use crate::error::PrioError;

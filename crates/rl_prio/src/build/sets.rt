@@ -33,11 +33,7 @@ pub(crate) fn add_sets(tree: &Re, sets: &mut Vec<CodeSet>) -> Result<(), OutOfMe
 ///
 /// # Errors
 /// [`OutOfMemory`] if there is not enough memory for them. Some may have been appended then.
-pub fn add_guard_sets(
-    alloc: Global,
-    tree: &Re,
-    sets: &mut Vec<CodeSet>,
-) -> Result<(), OutOfMemory>
+pub fn add_guard_sets(alloc: Global, tree: &Re, sets: &mut Vec<CodeSet>) -> Result<(), OutOfMemory>
     ensures sets { OnOk result
         (map has sets.new.items ≡ map has sets.old.items ++ guard_sets (tree_of tree.now)) }
     ensures inside { OnOk result ((u : Universe) → IsOver u (tree_of tree.now)
@@ -50,11 +46,7 @@ pub fn add_guard_sets(
 ///
 /// # Errors
 /// [`OutOfMemory`] if there is not enough memory for them.
-fn add_sets_of_guards(
-    alloc: Global,
-    tree: &Re,
-    sets: &mut Vec<CodeSet>,
-) -> Result<(), OutOfMemory>
+fn add_sets_of_guards(alloc: Global, tree: &Re, sets: &mut Vec<CodeSet>) -> Result<(), OutOfMemory>
     ensures { OnOk result
         (map has sets.new.items ≡ map has sets.old.items ++ guard_sets (tree_of tree.now)) }
 {

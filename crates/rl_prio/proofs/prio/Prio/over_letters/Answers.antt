@@ -6,6 +6,7 @@ use Rattle.rl_prio.specs.StandsFor.{StandsOver}
 use Rattle.rl_prio.specs.Automaton.{IsAutomaton}
 use Rattle.rl_prio.specs.internal.Plans.{IsPlan}
 use Rattle.rl_prio.proofs.WidthLemmas.{width-longest, longest-width}
+use Rattle.rl_prio.proofs.KindLemmas.{kinds_of_letters}
 use Rattle.rl_prio.proofs.BuildLemmas.{sound-plan, automaton, stands, some_codes, too_long}
 use Rattle.rl_prio.proofs.prio.Prio.over_letters.Goals as goal
 
@@ -15,6 +16,16 @@ returns-in_err-plan-clause-moves c =
     rw p.1 (λ e.
     let wide = c.in_err-plan.ensures.too_long (too_long c.in_err-plan.field-0.0 (sym p.2 ∙ e)) in
     omega (arith, wide, width-longest (tree_of c.args.tree.now)))
+
+pub kinds-requires-clause-few : goal.kinds-requires-clause-few
+kinds-requires-clause-few c =
+    let sets = c.requires.finer.0 in
+    omega (
+      arith,
+      kinds_of_letters (tree_of c.args.tree.now) (code_count c.args.universe) sets c.requires.finer.2,
+      c.requires.finer.1.same_count,
+      c.requires.few,
+    )
 
 pub rows-requires : goal.rows-requires
 rows-requires c =
