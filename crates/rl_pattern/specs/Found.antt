@@ -115,7 +115,7 @@ overlap f g = (f.ignore_case && g.ignore_case) || ((f.multiline && g.multiline) 
 -- `u` comes with `a` or in a `bytes`, or if a letter is on both sides of the `-`. `text` says whether the pattern is a `str`.
 abbrev pub kind_faults : Bool → ℕ → Kind → List Fault
 kind_faults text i (scoped on off) = fault_if on.locale i is_locale ++ fault_if (on.unicode && (on.ascii || not text) || overlap on off) i is_flag_clash
-kind_faults text i lookaround = fault i is_lookaround ∷ []
+kind_faults text i (lookaround behind negated) = fault i is_lookaround ∷ []
 kind_faults text i atomic = fault i is_atomic ∷ []
 kind_faults text i conditional = fault i is_conditional ∷ []
 kind_faults text i _ = []

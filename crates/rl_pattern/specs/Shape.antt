@@ -100,7 +100,7 @@ is_greedy _ = false
 -- an atomic group or a conditional, all of which are refused, becomes `outside`, without its body.
 abbrev pub group_shape : Span → Kind → s.PatTree → s.PatTree
 group_shape place (scoped on off) p = s.group place false p
-group_shape place lookaround p = s.outside place is_lookaround
+group_shape place (lookaround behind negated) p = s.outside place is_lookaround
 group_shape place atomic p = s.outside place is_atomic
 group_shape place conditional p = s.outside place is_conditional
 group_shape place _ p = s.group place true p

@@ -227,7 +227,7 @@ fn kind_fault(text: bool, place: u32, kind: &Kind) -> Option<Fault>
             let clash = on.unicode && (on.ascii || !text) || overlap(*on, *off);
             earlier(locale, fault_if(clash, place, Feature::FlagClash))
         }
-        Kind::Lookaround => Some(Fault {
+        Kind::Lookaround { .. } => Some(Fault {
             place,
             what: Feature::Lookaround,
         }),

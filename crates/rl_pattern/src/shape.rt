@@ -126,7 +126,7 @@ fn group_pat(alloc: Global, span: Span, kind: &Kind, body: Pat) -> Result<Pat, O
     match kind {
         Kind::Capturing | Kind::Named(_) => group_of(alloc, span, true, body),
         Kind::Scoped(_, _) => group_of(alloc, span, false, body),
-        Kind::Lookaround => {
+        Kind::Lookaround { .. } => {
             drop(body);
             Ok(Pat::Outside {
                 span,
