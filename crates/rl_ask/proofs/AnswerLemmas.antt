@@ -6,6 +6,7 @@ use Rattle.std.proofs.lemmas.Result.{err_from_is_err_and}
 use Rattle.rl_ranges.specs.Text.{IsText}
 use Rattle.rl_ranges.specs.declared.universe.Universe.{Universe}
 use Rattle.rl_ranges.specs.declared.universe.Universe.TheVariants.{Str}
+use Rattle.rl_syntax.specs.Family.{family_text}
 use Rattle.rl_syntax.specs.Pattern.{universe_of}
 use Rattle.rl_syntax.specs.declared.pattern.Pattern.{Pattern}
 use Rattle.rl_syntax.specs.declared.re.Mode.{Mode}
@@ -22,7 +23,7 @@ use Rattle.rl_asked.specs.Words.{Text}
 use Rattle.rl_asked.specs.declared.question.Terms.{Terms}
 use Rattle.rl_ask.specs.Answers.{IsRight, IsTellable}
 use Rattle.rl_ask.specs.Comparisons.{AreCompared}
-use Rattle.rl_ask.specs.Costs.{IsCost, IsCostOf, too_long, counted}
+use Rattle.rl_ask.specs.Costs.{IsCost, IsCostOf, family_named, too_long, counted}
 use Rattle.rl_ask.specs.Document.{universe_of as universe_asked}
 use Rattle.rl_ask.specs.Explanations.{IsExplained}
 use Rattle.rl_ask.specs.Finds.{IsFoundOn, IsSight, exceeds, runs}
@@ -151,7 +152,6 @@ decided-told how a b (answer.Suggested s) h = absurd h
 decided-told how a b (answer.Cost c) h = absurd h
 decided-told how a b answer.TextTooLong h = absurd h
 decided-told how a b answer.Version h = absurd h
-decided-told how a b answer.NotAnswered h = absurd h
 
 found-told : (how : How) (groups : Bool) (p q : Pattern) (given : Answer) → AreFound how groups p q given → IsTellable (universe_of p) given
 found-told how groups p q _ (first_exceeds h) = tt
@@ -188,7 +188,6 @@ class-told mode pairs p (answer.Suggested s) h = absurd h
 class-told mode pairs p (answer.Cost c) h = tt
 class-told mode pairs p answer.TextTooLong h = tt
 class-told mode pairs p answer.Version h = tt
-class-told mode pairs p answer.NotAnswered h = tt
 
 pub verdict-told : (u : Universe) (v : Verdict) → HasTexts u v → IsVerdictOf u v
 verdict-told u (verdict.Degree d f) h = h
@@ -210,7 +209,6 @@ explained-told mode pairs p (answer.Suggested s) h = absurd h
 explained-told mode pairs p (answer.Cost c) h = tt
 explained-told mode pairs p answer.TextTooLong h = tt
 explained-told mode pairs p answer.Version h = tt
-explained-told mode pairs p answer.NotAnswered h = tt
 
 compared-told : (mode : Mode) (most : ℕ) (p q : Pattern) (given : Answer) → AreCompared mode most p q given → IsTellable (universe_of p) given
 compared-told mode most p q (answer.Compared c) h = are-texts (universe_of p) mode most p q c h
@@ -227,7 +225,6 @@ compared-told mode most p q (answer.Suggested s) h = absurd h
 compared-told mode most p q (answer.Cost c) h = tt
 compared-told mode most p q answer.TextTooLong h = tt
 compared-told mode most p q answer.Version h = tt
-compared-told mode most p q answer.NotAnswered h = tt
 
 suggested-told : (flags : Flags) (w : List ℕ) (pairs : ℕ) (p : Pattern) (given : Answer) → IsSuggested flags w pairs p given → IsTellable (universe_of p) given
 suggested-told flags w pairs p (answer.Suggested s) h = h.1
@@ -244,7 +241,6 @@ suggested-told flags w pairs p (answer.Found sight) h = tt
 suggested-told flags w pairs p (answer.Cost c) h = tt
 suggested-told flags w pairs p answer.TextTooLong h = tt
 suggested-told flags w pairs p answer.Version h = tt
-suggested-told flags w pairs p answer.NotAnswered h = tt
 
 tree-told : (p : Pattern) (given : Answer) → IsTree p given → IsTellable (universe_of p) given
 tree-told p (answer.Tree reply) h = h.1
@@ -261,7 +257,6 @@ tree-told p (answer.Suggested s) h = absurd h
 tree-told p (answer.Cost c) h = tt
 tree-told p answer.TextTooLong h = tt
 tree-told p answer.Version h = tt
-tree-told p answer.NotAnswered h = tt
 
 -- What is found, and costs, have no texts.
 sight-told : (mode : Mode) (m : MarkedPattern) (w : List ℕ) (advance : Bool) (i : ℕ) (u : Universe) (given : Answer) → IsSight mode m w advance i given → IsTellable u given
@@ -279,7 +274,6 @@ sight-told mode m w advance i u (answer.Suggested s) h = absurd h
 sight-told mode m w advance i u (answer.Cost c) h = tt
 sight-told mode m w advance i u answer.TextTooLong h = tt
 sight-told mode m w advance i u answer.Version h = tt
-sight-told mode m w advance i u answer.NotAnswered h = tt
 
 finds-told : (mode : Mode) (w : List ℕ) (advance : Bool) (i : ℕ) (p : Pattern) (given : Answer) → IsFoundOn mode w advance i p given → IsTellable (universe_of p) given
 finds-told mode w advance i p _ (exceeds h) = tt
@@ -300,7 +294,6 @@ cost-told mode w p (answer.Suggested s) h = absurd h
 cost-told mode w p (answer.Found sight) h = tt
 cost-told mode w p answer.TextTooLong h = tt
 cost-told mode w p answer.Version h = tt
-cost-told mode w p answer.NotAnswered h = tt
 
 cost_of-told : (terms : Terms) (pattern : Text) (mode : Mode) (w : List ℕ) (given : Answer) → IsCostOf terms pattern mode w given → IsTellable terms.universe given
 cost_of-told terms pattern mode w _ (too_long h) = tt
@@ -316,5 +309,5 @@ right-told (spans first second terms how limit groups) given h = both-told terms
 right-told (found pattern terms mode text from advance) given h = read-told terms pattern (IsFoundOn mode (chars text) advance from) (finds-told mode (chars text) advance from) given h
 right-told (suggest pattern terms pairs) given h = read-told terms pattern (IsSuggested terms.flags (chars pattern) pairs) (suggested-told terms.flags (chars pattern) pairs) given h
 right-told (cost pattern terms mode text) given h = cost_of-told terms pattern mode (chars text) given h
-right-told (family_cost pattern terms mode heads pumps k) given h = subst (IsTellable terms.universe) (sym h) tt
+right-told (family_cost pattern terms mode heads pumps k) given h = cost_of-told terms pattern mode (family_text (family_named heads pumps) k) given h
 right-told version given h = subst (IsTellable Str) (sym h) tt

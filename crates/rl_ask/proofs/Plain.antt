@@ -144,4 +144,3 @@ answer-plain universe most (answer.Suggested s) =
 answer-plain universe most (answer.Cost c) = refl
 answer-plain universe most answer.TextTooLong = refl
 answer-plain universe most answer.Version = refl
-answer-plain universe most answer.NotAnswered = refl

@@ -6,11 +6,12 @@ use Rattle.serde_json.specs.View.{view}
 use Rattle.serde_json.specs.Written.{has_float}
 use Rattle.rl_ranges.specs.Text.{IsText}
 use Rattle.rl_ranges.specs.declared.universe.Universe.{Universe}
+use Rattle.rl_syntax.specs.Family.{family_text}
 use Rattle.rl_growth.specs.Texts.{HasTexts}
 use Rattle.rl_report.specs.Verdicts.{IsVerdictOf}
 use Rattle.rl_asked.specs.Questions.{Asked, class, ways, tree, compare, spans, found, suggest, cost, family_cost, version}
 use Rattle.rl_ask.specs.Comparisons.{AreCompared, AreTexts}
-use Rattle.rl_ask.specs.Costs.{IsCostOf}
+use Rattle.rl_ask.specs.Costs.{IsCostOf, family_named}
 use Rattle.rl_ask.specs.Explanations.{IsExplained}
 use Rattle.rl_ask.specs.Finds.{IsFoundOn}
 use Rattle.rl_ask.specs.Patterns.{BothReadThen, ReadThen}
@@ -21,7 +22,7 @@ use Rattle.rl_ask.specs.Verdicts.{IsClass, IsLeastOf}
 use Rattle.rl_ask.specs.declared.answer.Answer.{Answer}
 use Rattle.rl_ask.specs.declared.answer.Answer.TheVariants as answer
 
--- Holds if the answer is right for the question. Questions about the cost of a family aren't answered.
+-- Holds if the answer is right for the question. The cost of a family is that of its string.
 abbrev pub IsRight : Asked → Answer → Type 0
 IsRight (class pattern terms mode pairs) a = ReadThen terms pattern (IsClass mode pairs) a
 IsRight (ways pattern terms mode pairs) a = ReadThen terms pattern (IsExplained mode pairs) a
@@ -31,7 +32,7 @@ IsRight (spans first second terms how limit groups) a = BothReadThen terms first
 IsRight (found pattern terms mode text from advance) a = ReadThen terms pattern (IsFoundOn mode (chars text) advance from) a
 IsRight (suggest pattern terms pairs) a = ReadThen terms pattern (IsSuggested terms.flags (chars pattern) pairs) a
 IsRight (cost pattern terms mode text) a = IsCostOf terms pattern mode (chars text) a
-IsRight (family_cost pattern terms mode heads pumps k) a = a ≡ answer.NotAnswered
+IsRight (family_cost pattern terms mode heads pumps k) a = IsCostOf terms pattern mode (family_text (family_named heads pumps) k) a
 IsRight version a = a ≡ answer.Version
 
 -- Holds if the answer can be written: its texts, if it has some, have only codes of the universe, and a reply that is handed on

@@ -227,7 +227,6 @@ answer_members universe most (answer.Suggested s) = suggestion_members universe 
 answer_members universe most (answer.Cost c) = cost_members c
 answer_members universe most answer.TextTooLong = error_members (codes "text over " ++ (decimal MOST_TEXT_CODES ++ codes " codes"))
 answer_members universe most answer.Version = version_members
-answer_members universe most answer.NotAnswered = error_members (codes "questions of this kind aren't answered")
 
 -- An answer as a value: the reply that is handed on, or an object.
 abbrev pub answer_data : Universe → ℕ → Answer → Data

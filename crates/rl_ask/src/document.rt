@@ -573,7 +573,6 @@ fn put_answer(
             put_error(alloc, members, message.as_str())
         }
         Answer::Version => put_version(alloc, members),
-        Answer::NotAnswered => put_error(alloc, members, "questions of this kind aren't answered"),
     }
 }
 
