@@ -15,7 +15,7 @@ use Rattle.rl_syntax.specs.declared.pat.Pat.TheVariants as V
 use Rattle.rl_syntax.specs.declared.pat.Pat.TheFolds.{the_lemmas}
 use Rattle.rl_syntax.specs.declared.pattern.Pattern.{Pattern}
 use Rattle.rl_syntax.specs.Tree.{LiesIn}
-use Rattle.rl_syntax.specs.PatTree.{PatTree, PatTrees, BranchTrees, nothing, class, seq, choice, repeat, group, anchor, boundary, outside, no_items, item, no_branches, branch, items_of, branches_of, pat_of}
+use Rattle.rl_syntax.specs.PatTree.{PatTree, PatTrees, BranchTrees, nothing, class, seq, choice, repeat, group, anchor, boundary, look, outside, no_items, item, no_branches, branch, items_of, branches_of, pat_of}
 use Rattle.rl_syntax.specs.Counting.{branch_tree}
 use Rattle.rl_syntax.specs.IsPattern.{IsPart, AreParts, AreBranches, IsPattern}
 use Rattle.rl_syntax.specs.Pattern.{body_of, is_anchored, trail_of, universe_of}
@@ -66,6 +66,7 @@ mutual
   pat_from u (group s c p) = V.Group s c (boxed (pat_from u p))
   pat_from u (anchor s k m) = V.Anchor s k m
   pat_from u (boundary s n a) = V.Boundary s n a
+  pat_from u (look s b n ranges) = V.Look s b n ranges
   pat_from u (outside s f) = V.Outside s f
 
   pats_from : Universe → PatTrees → List Pat
@@ -88,6 +89,7 @@ mutual
   pat_of-from u (group s c p) h = let e : pat_of (V.Group s c (boxed (pat_from u p))) ≡ group s c (pat_of (boxed (pat_from u p)).value) = search the_lemmas in e ∙ ap (group s c) (ap pat_of (value-boxed (pat_from u p)) ∙ pat_of-from u p h)
   pat_of-from u (anchor s k m) h = search the_lemmas
   pat_of-from u (boundary s n a) h = search the_lemmas
+  pat_of-from u (look s b n ranges) h = search the_lemmas
   pat_of-from u (outside s f) h = absurd h
 
   items_of-from : (u : Universe) (ps : PatTrees) → AreParts u ps → items_of (map pat_of (pats_from u ps)) ≡ ps

@@ -5,7 +5,7 @@ use Rattle.rl_ranges.specs.declared.universe.Universe.{Universe}
 use Rattle.rl_syntax.specs.declared.span.Span.{Span}
 use Rattle.rl_syntax.specs.Tree.{Tree}
 use Rattle.rl_syntax.specs.Lowering.{lowered, items_lowered, branches_lowered}
-use Rattle.rl_syntax.specs.PatTree.{PatTree, PatTrees, BranchTrees, nothing, class, seq, choice, repeat, group, anchor, boundary, outside, no_items, item, no_branches, branch}
+use Rattle.rl_syntax.specs.PatTree.{PatTree, PatTrees, BranchTrees, nothing, class, seq, choice, repeat, group, anchor, boundary, look, outside, no_items, item, no_branches, branch}
 use Rattle.rl_syntax.specs.SameSpans.{Unguarded, OneLanguage}
 use Rattle.rl_syntax.proofs.Guardless.{AllUnguarded, turn_unguarded, one_unguarded, times_unguarded}
 use Rattle.rl_pattern.specs.Cut.{choice_of, remaining, remaining_items, remaining_branches}
@@ -63,6 +63,7 @@ module _ (drop out : Span → Bool) where
     left_unguarded (group s c p) h = left_unguarded p h
     left_unguarded (anchor s k m) h = absurd (true≢false h)
     left_unguarded (boundary s n a) h = absurd (true≢false h)
+    left_unguarded (look s behind negated ranges) h = absurd (true≢false h)
     left_unguarded (outside s f) h = tt
 
     items_unguarded : (ps : PatTrees) → some_guard ps ≡ false → AllUnguarded (items_lowered (remaining_items drop out ps))

@@ -16,7 +16,7 @@ plain_of : (text : Bool) (i : ℕ) (kd : Kind) → kind_faults text i kd ≡ [] 
 plain_of text i capturing h = refl
 plain_of text i (named n) h = refl
 plain_of text i (scoped f g) h = refl
-plain_of text i lookaround h = absurd (cc h)
+plain_of text i (lookaround b n) h = absurd (cc h)
 plain_of text i atomic h = absurd (cc h)
 plain_of text i conditional h = absurd (cc h)
 
@@ -26,7 +26,7 @@ module _ (u : Universe) where
   group_capture r i capturing p pl h = absurd (true≢false h)
   group_capture r i (named n) p pl h = absurd (true≢false h)
   group_capture r i (scoped f g) p pl h = (refl, h)
-  group_capture r i lookaround p pl h = absurd (true≢false (sym pl))
+  group_capture r i (lookaround b n) p pl h = absurd (true≢false (sym pl))
   group_capture r i atomic p pl h = absurd (true≢false (sym pl))
   group_capture r i conditional p pl h = absurd (true≢false (sym pl))
 
@@ -66,7 +66,7 @@ module _ (u : Universe) where
     group_may_go r capturing p pl h = h
     group_may_go r (named n) p pl h = h
     group_may_go r (scoped f g) p pl h = h
-    group_may_go r lookaround p pl h = absurd (true≢false (sym pl))
+    group_may_go r (lookaround b n) p pl h = absurd (true≢false (sym pl))
     group_may_go r atomic p pl h = absurd (true≢false (sym pl))
     group_may_go r conditional p pl h = absurd (true≢false (sym pl))
 

@@ -287,7 +287,7 @@ module _ (text : Bool) where
   head_ends k a b paren = read_step k 41 _ _ (replicate (length b.below) 41) refl (closed (suc k) _)
   head_ends k a b quest = read_step k 58 _ _ (41 ∷ replicate (length b.below) 41) refl (opened_closes (suc k) a (suc k) b (scoped no_flags no_flags))
   head_ends k a b after_p = read_step k 61 _ _ (97 ∷ 41 ∷ replicate (length b.below) 41) refl (read_step (suc k) 97 _ (at b (in_head a reference_name_goes)) (41 ∷ replicate (length b.below) 41) refl (read_step (suc (suc k)) 41 _ _ (replicate (length b.below) 41) refl (closed (suc (suc (suc k))) _)))
-  head_ends k a b after_less = read_step k 61 _ _ (41 ∷ replicate (length b.below) 41) refl (opened_closes (suc k) a (suc k) b lookaround)
+  head_ends k a b after_less = read_step k 61 _ _ (41 ∷ replicate (length b.below) 41) refl (opened_closes (suc k) a (suc k) b (lookaround true false))
   head_ends k a b group_name = read_step k 97 _ (at b (in_head a (group_name_goes (97 ∷ [])))) (62 ∷ 41 ∷ replicate (length b.below) 41) refl (read_step (suc k) 62 _ _ (41 ∷ replicate (length b.below) 41) refl (opened_closes (suc (suc k)) a (suc (suc k)) b (named (97 ∷ []))))
   head_ends k a b (group_name_goes n) = read_step k 62 _ _ (41 ∷ replicate (length b.below) 41) refl (opened_closes (suc k) a (suc k) b (named n))
   head_ends k a b reference_name = read_step k 97 _ (at b (in_head a reference_name_goes)) (41 ∷ replicate (length b.below) 41) refl (read_step (suc k) 41 _ _ (replicate (length b.below) 41) refl (closed (suc (suc k)) _))

@@ -4,7 +4,7 @@ use Rattle.std.proofs.lemmas.Bool.{ne_eqb}
 use Rattle.std.proofs.lemmas.Bool.Decides.{nat_tests}
 use Rattle.rl_pattern.specs.declared.flags.Flags.{Flags}
 use Rattle.rl_pattern.specs.Tree.{Kind, capturing, named, scoped, lookaround, atomic, conditional, glyph, reference}
-use Rattle.rl_pattern.specs.Codes.{numeral, is_digit, begins_name, goes_in_name, GroupPrefix, headed, letter, colon, minus, letter_p, sharps, less, greater, condition, looks, on_letter, off_letter, no_flags, with_letter}
+use Rattle.rl_pattern.specs.Codes.{is, numeral, is_digit, begins_name, goes_in_name, GroupPrefix, headed, letter, colon, minus, letter_p, sharps, less, greater, condition, looks, on_letter, off_letter, no_flags, with_letter}
 use Rattle.rl_pattern.specs.Grammar.{At, Name, first_code, next_code, Digits, one_digit, next_digit, Letters, first_letter, next_letter, SpelledAt, Opening, captures, captures_named, groups, groups_on, groups_both, groups_off, looks_ahead, looks_behind, cuts, asks_number, asks_name, FlagGroup, flag_group, Without, no_code, one_code}
 use Rattle.rl_pattern.specs.internal.Machine.{State, Base, at, between, comment, stops, goes, ends, InHead, paren, quest, after_p, after_less, group_name, group_name_goes, reference_name, reference_name_goes, asks, asks_digits, asks_name_goes, letters_on, letters_dash, letters_off, GroupStart, begins_group, begins_comment, is_reference, is_front, quest_next, after_less_next, head_step, head_answer, in_head, begin, open_group, put_leaf, put_front}
 use Rattle.rl_pattern.proofs.Steps.{reads_from, goes_to, same_step, differs}
@@ -106,9 +106,9 @@ module _ (text : Bool) (w : List ℕ) {X : Type 0} (ask : ℕ → State → Opti
       asked at_q ∙ (letters_go ls ∙ on j 45 (letters_on f) (letters_dash f) at_minus refl ∙ off_go f ms ∙ off k 58 (letters_off f g) (begins_group (scoped f g)) _ at_end refl refl)
   opening_goes (groups_off {k = k} {g = g} (at_a, (at_q, at_minus)) ms at_end) =
       asked at_q ∙ (by_head (suc (suc a)) 45 minus (letters_dash no_flags) at_minus heads.1 refl ∙ off_go no_flags ms ∙ off k 58 (letters_off no_flags g) (begins_group (scoped no_flags g)) _ at_end refl refl)
-  opening_goes (looks_ahead {c = c} (at_a, at_q) at_c h) = asked at_q ∙ (by_head_ends (suc (suc a)) c looks (begins_group lookaround) _ at_c h refl refl)
+  opening_goes (looks_ahead {c = c} (at_a, at_q) at_c h) = asked at_q ∙ (by_head_ends (suc (suc a)) c looks (begins_group (lookaround false (is "!" c))) _ at_c h refl refl)
   opening_goes (looks_behind {c = c} (at_a, (at_q, at_less)) at_c h) =
-      asked at_q ∙ (by_head (suc (suc a)) 60 less after_less at_less heads.4 refl ∙ off (suc (suc (suc a))) c after_less (begins_group lookaround) _ at_c (ap after_less_next h) refl)
+      asked at_q ∙ (by_head (suc (suc a)) 60 less after_less at_less heads.4 refl ∙ off (suc (suc (suc a))) c after_less (begins_group (lookaround true (is "!" c))) _ at_c (ap (λ x. after_less_next x c) h) refl)
   opening_goes (cuts (at_a, (at_q, at_c))) = asked at_q ∙ (by_head_ends (suc (suc a)) 62 greater (begins_group atomic) _ at_c heads.5 refl refl)
   opening_goes (asks_number {j = j} (at_a, (at_q, at_c)) ds at_end) =
       asked at_q ∙ (by_head (suc (suc a)) 40 condition asks at_c heads.6 refl ∙ digits_go_on ds ∙ off j 41 asks_digits (begins_group conditional) _ at_end refl refl)

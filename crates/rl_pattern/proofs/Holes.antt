@@ -109,7 +109,7 @@ module _ (u : Universe) (drop out : Span → Bool) where
   group_hole r capturing q t h = h
   group_hole r (named n) q t h = h
   group_hole r (scoped f g) q t h = h
-  group_hole r lookaround q t h = absurd (true≢false (sym h))
+  group_hole r (lookaround b n) q t h = absurd (true≢false (sym h))
   group_hole r atomic q t h = absurd (true≢false (sym h))
   group_hole r conditional q t h = absurd (true≢false (sym h))
 

@@ -51,7 +51,7 @@ pub kind_moved : (text : Bool) (i j : ℕ) (kd : Kind) → kind_faults text i kd
 kind_moved text i j capturing h = refl
 kind_moved text i j (named n) h = refl
 kind_moved text i j (scoped f g) h = two_moved f.locale (f.unicode && (f.ascii || not text) || overlap f g) i j is_locale is_flag_clash h
-kind_moved text i j lookaround h = absurd (cc h)
+kind_moved text i j (lookaround b n) h = absurd (cc h)
 kind_moved text i j atomic h = absurd (cc h)
 kind_moved text i j conditional h = absurd (cc h)
 

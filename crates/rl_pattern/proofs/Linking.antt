@@ -53,7 +53,7 @@ abbrev pub is_plain : Kind → Bool
 is_plain capturing = true
 is_plain (named n) = true
 is_plain (scoped f g) = true
-is_plain lookaround = false
+is_plain (lookaround b n) = false
 is_plain atomic = false
 is_plain conditional = false
 
@@ -137,7 +137,7 @@ module _ (u : Universe) (drop out : Span → Bool) where
   plain_kind capturing h = record { splits_on = λ bs. refl; holes_of = λ r q t. refl; tree_of = λ r q. refl; left_of = λ r q. refl }
   plain_kind (named n) h = record { splits_on = λ bs. refl; holes_of = λ r q t. refl; tree_of = λ r q. refl; left_of = λ r q. refl }
   plain_kind (scoped f g) h = record { splits_on = λ bs. refl; holes_of = λ r q t. refl; tree_of = λ r q. refl; left_of = λ r q. refl }
-  plain_kind lookaround h = absurd (true≢false (sym h))
+  plain_kind (lookaround b n) h = absurd (true≢false (sym h))
   plain_kind atomic h = absurd (true≢false (sym h))
   plain_kind conditional h = absurd (true≢false (sym h))
 
@@ -145,7 +145,7 @@ module _ (u : Universe) (drop out : Span → Bool) where
   kind_named i j capturing = refl
   kind_named i j (named n) = refl
   kind_named i j (scoped f g) = refl
-  kind_named i j lookaround = refl
+  kind_named i j (lookaround b n) = refl
   kind_named i j atomic = refl
   kind_named i j conditional = refl
 

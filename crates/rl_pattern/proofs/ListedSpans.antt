@@ -4,7 +4,7 @@ use Rattle.rl_ranges.specs.declared.universe.Universe.{Universe}
 use Rattle.rl_syntax.specs.declared.span.Span.{Span}
 use Rattle.rl_syntax.specs.declared.pattern.Pattern.{Pattern}
 use Rattle.rl_syntax.specs.Pattern.{body_of}
-use Rattle.rl_syntax.specs.PatTree.{PatTree, PatTrees, BranchTrees, nothing, class, seq, choice, repeat, group, anchor, boundary, outside, no_items, item, no_branches, branch}
+use Rattle.rl_syntax.specs.PatTree.{PatTree, PatTrees, BranchTrees, nothing, class, seq, choice, repeat, group, anchor, boundary, look, outside, no_items, item, no_branches, branch}
 use Rattle.rl_pattern.specs.declared.flags.Flags.{Flags}
 use Rattle.rl_pattern.specs.Parsed.{is_text, IsParsed}
 use Rattle.rl_pattern.specs.Cut.{remaining}
@@ -24,6 +24,7 @@ mutual
   branches_rise (group s c p) i j h = branches_rise p i j h
   branches_rise (anchor s k m) i j h = tt
   branches_rise (boundary s n a) i j h = tt
+  branches_rise (look s behind negated ranges) i j h = tt
   branches_rise (outside s f) i j h = tt
 
   items_rise : (ps : PatTrees) (i j : ℕ) → PlacedItems ps i j → Rising i j (items_branches ps)
@@ -51,6 +52,7 @@ mutual
   merged_rise (group s c p) i j h = merged_rise p i j h
   merged_rise (anchor s k m) i j h = tt
   merged_rise (boundary s n a) i j h = tt
+  merged_rise (look s behind negated ranges) i j h = tt
   merged_rise (outside s f) i j h = tt
 
   merged_items_rise : (ps : PatTrees) (i j : ℕ) → PlacedItems ps i j → Rising i j (items_merged ps)
@@ -72,6 +74,7 @@ mutual
   under_rise (group s c p) i j x y h = inside_rise p i j c x y h
   under_rise (anchor s k m) i j x y h = tt
   under_rise (boundary s n a) i j x y h = tt
+  under_rise (look s behind negated ranges) i j x y h = tt
   under_rise (outside s f) i j x y h = tt
 
   inside_rise : (p : PatTree) (i j : ℕ) (captures : Bool) (least : ℕ) (most : Option ℕ) → Placed p i j → Rising i j (merged_at (inside captures least most) p)
@@ -85,6 +88,7 @@ mutual
   inside_rise (group s c p) i j v x y h = merged_rise p i j h
   inside_rise (anchor s k m) i j v x y h = tt
   inside_rise (boundary s n a) i j v x y h = tt
+  inside_rise (look s behind negated ranges) i j v x y h = tt
   inside_rise (outside s f) i j v x y h = tt
 
 module _ (flags : Flags) (u : Universe) (w : List ℕ) (found : Pattern) where

@@ -4,7 +4,7 @@ use Rattle.std.proofs.lemmas.Bool.{eqb-true, cond_both}
 use Rattle.std.proofs.lemmas.List.{append-nil}
 use mathlib.Core.Logic.{⊎_elim}
 use Rattle.rl_syntax.specs.declared.span.Span.{Span}
-use Rattle.rl_syntax.specs.PatTree.{PatTree, PatTrees, BranchTrees, nothing, class, seq, choice, repeat, group, anchor, boundary, outside, no_items, item, no_branches, branch}
+use Rattle.rl_syntax.specs.PatTree.{PatTree, PatTrees, BranchTrees, nothing, class, seq, choice, repeat, group, anchor, boundary, look, outside, no_items, item, no_branches, branch}
 use Rattle.rl_pattern.specs.Cut.{choice_of, remaining, remaining_items, remaining_branches}
 use Rattle.rl_syntax.specs.AllowedPair.{AllowedPair, any_in_any, some_in_any, option_in_any, some_in_some}
 use Rattle.rl_pattern.proofs.Merged.{MayMerge, AllMayMerge, BranchesMayMerge, MergesUnder, MergesIn}
@@ -24,6 +24,7 @@ abbrev mutual
   Placed (group s c p) i j = Placed p i j
   Placed (anchor s k m) i j = i ≤ j
   Placed (boundary s n a) i j = i ≤ j
+  Placed (look s behind negated ranges) i j = i ≤ j
   Placed (outside s f) i j = i ≤ j
 
   pub PlacedItems : PatTrees → ℕ → ℕ → Type 0
@@ -44,6 +45,7 @@ mutual
   placed_le (group s c p) i j h = placed_le p i j h
   placed_le (anchor s k m) i j h = h
   placed_le (boundary s n a) i j h = h
+  placed_le (look s behind negated ranges) i j h = h
   placed_le (outside s f) i j h = h
 
   pub items_le : (ps : PatTrees) (i j : ℕ) → PlacedItems ps i j → i ≤ j
@@ -64,6 +66,7 @@ mutual
   placed_more (group s c p) i j a b x y h = placed_more p i j a b x y h
   placed_more (anchor s k m) i j a b x y h = omega (arith, x, y, h)
   placed_more (boundary s n c) i j a b x y h = omega (arith, x, y, h)
+  placed_more (look s behind negated ranges) i j a b x y h = omega (arith, x, y, h)
   placed_more (outside s f) i j a b x y h = omega (arith, x, y, h)
 
   items_more : (ps : PatTrees) (i j a b : ℕ) → a ≤ i → j ≤ b → PlacedItems ps i j → PlacedItems ps a b
@@ -91,6 +94,7 @@ module _ (drop : Span → Bool) where
     left_placed (group s c p) i j h = left_placed p i j h
     left_placed (anchor s k m) i j h = h
     left_placed (boundary s n a) i j h = h
+    left_placed (look s behind negated ranges) i j h = h
     left_placed (outside s f) i j h = h
 
     left_items_placed : (ps : PatTrees) (i j : ℕ) → PlacedItems ps i j → PlacedItems (remaining_items drop no_span ps) i j
@@ -144,6 +148,7 @@ mutual
   in_within (group s c p) i j h = in_within p i j h
   in_within (anchor s k m) i j h = tt
   in_within (boundary s n a) i j h = tt
+  in_within (look s behind negated ranges) i j h = tt
   in_within (outside s f) i j h = tt
 
   items_within : (ps : PatTrees) (i j : ℕ) → PlacedItems ps i j → Within i j (items_merged ps)
@@ -164,6 +169,7 @@ mutual
   under_within (group s c p) i j x y h = inside_within p i j c x y h
   under_within (anchor s k m) i j x y h = tt
   under_within (boundary s n a) i j x y h = tt
+  under_within (look s behind negated ranges) i j x y h = tt
   under_within (outside s f) i j x y h = tt
 
   inside_within : (p : PatTree) (i j : ℕ) (captures : Bool) (least : ℕ) (most : Option ℕ) → Placed p i j → Within i j (merged_at (inside captures least most) p)
@@ -177,6 +183,7 @@ mutual
   inside_within (group s c p) i j v x y h = in_within p i j h
   inside_within (anchor s k m) i j v x y h = tt
   inside_within (boundary s n a) i j v x y h = tt
+  inside_within (look s behind negated ranges) i j v x y h = tt
   inside_within (outside s f) i j v x y h = tt
 
 -- The pairs that are allowed.
@@ -237,6 +244,7 @@ module _ (ms : List Span) where
     merge_of (group s c p) i j h o = merge_of p i j h o
     merge_of (anchor s k m) i j h o = tt
     merge_of (boundary s n a) i j h o = tt
+    merge_of (look s behind negated ranges) i j h o = tt
     merge_of (outside s f) i j h o = tt
 
     items_merge : (ps : PatTrees) (i j : ℕ) → PlacedItems ps i j → OutIs (items_merged ps) i j → AllMayMerge (among ms) ps
@@ -261,6 +269,7 @@ module _ (ms : List Span) where
     under_merge (group s c p) i j x y h o = inside_merge p i j c x y h o
     under_merge (anchor s k m) i j x y h o = tt
     under_merge (boundary s n a) i j x y h o = tt
+    under_merge (look s behind negated ranges) i j x y h o = tt
     under_merge (outside s f) i j x y h o = tt
 
     inside_merge : (p : PatTree) (i j : ℕ) (captures : Bool) (least : ℕ) (most : Option ℕ) → Placed p i j → OutIs (merged_at (inside captures least most) p) i j → MergesIn (among ms) p least most
@@ -280,6 +289,7 @@ module _ (ms : List Span) where
     inside_merge (group s c p) i j v x y h o = merge_of p i j h o
     inside_merge (anchor s k m) i j v x y h o = tt
     inside_merge (boundary s n a) i j v x y h o = tt
+    inside_merge (look s behind negated ranges) i j v x y h o = tt
     inside_merge (outside s f) i j v x y h o = tt
 
 -- The quantifiers that the rule removes may be removed.
@@ -306,6 +316,7 @@ module _ (drop out : Span → Bool) where
     left_twice (group s c p) = ap (group s c) (left_twice p)
     left_twice (anchor s k m) = refl
     left_twice (boundary s n a) = refl
+    left_twice (look s behind negated ranges) = refl
     left_twice (outside s f) = refl
 
     items_twice : (ps : PatTrees) → remaining_items (λ r. false) out (remaining_items drop no_span ps) ≡ remaining_items drop out ps

@@ -3,7 +3,7 @@
 use Rattle.std.proofs.Common.{◌≡◌, ℕ, Bool, true, false, Option}
 use Rattle.rl_syntax.specs.declared.span.Span.{Span}
 use Rattle.rl_syntax.specs.AllowedPair.{AllowedPair}
-use Rattle.rl_syntax.specs.PatTree.{PatTree, PatTrees, BranchTrees, nothing, class, seq, choice, repeat, group, anchor, boundary, outside, no_items, item, no_branches, branch}
+use Rattle.rl_syntax.specs.PatTree.{PatTree, PatTrees, BranchTrees, nothing, class, seq, choice, repeat, group, anchor, boundary, look, outside, no_items, item, no_branches, branch}
 
 -- The quantifiers with these spans are removed.
 module _ (out : Span → Bool) where
@@ -18,6 +18,7 @@ module _ (out : Span → Bool) where
     MayMerge (group s captures p) = MayMerge p
     MayMerge (anchor s kind multiline) = Unit {0}
     MayMerge (boundary s negated ascii) = Unit {0}
+    MayMerge (look s behind negated ranges) = Unit {0}
     MayMerge (outside s what) = Unit {0}
 
     pub AllMayMerge : PatTrees → Type 0
@@ -38,6 +39,7 @@ module _ (out : Span → Bool) where
     MergesUnder (group s captures p) least most = MergesIn p least most
     MergesUnder (anchor s kind multiline) least most = Unit {0}
     MergesUnder (boundary s negated ascii) least most = Unit {0}
+    MergesUnder (look s behind negated ranges) least most = Unit {0}
     MergesUnder (outside s what) least most = Unit {0}
 
     -- The content of the group that is the body of a repeat with these bounds.
@@ -50,4 +52,5 @@ module _ (out : Span → Bool) where
     MergesIn (group s captures p) least most = MayMerge p
     MergesIn (anchor s kind multiline) least most = Unit {0}
     MergesIn (boundary s negated ascii) least most = Unit {0}
+    MergesIn (look s behind negated ranges) least most = Unit {0}
     MergesIn (outside s what) least most = Unit {0}

@@ -63,6 +63,7 @@ module _ (out : Span → Bool) where
     merged_same (s.group r captures p) h = merged_same p h
     merged_same (s.anchor r kind multiline) h = same_refl (lowered (s.anchor r kind multiline))
     merged_same (s.boundary r negated ascii) h = same_refl (lowered (s.boundary r negated ascii))
+    merged_same (s.look r behind negated ranges) h = same_refl (lowered (s.look r behind negated ranges))
     merged_same (s.outside r what) h = same_refl empty
 
     items_same : (ps : s.PatTrees) → AllMayMerge out ps → AllSame (items_lowered (items_kept ps)) (items_lowered ps)
@@ -82,6 +83,7 @@ module _ (out : Span → Bool) where
     under_same (s.group r captures p) least most h g = in_same p least most h g
     under_same (s.anchor r kind multiline) least most h g = same_times least most g (lowered (kept_of (s.anchor r kind multiline))) (lowered (s.anchor r kind multiline)) (same_refl (lowered (s.anchor r kind multiline)))
     under_same (s.boundary r negated ascii) least most h g = same_times least most g (lowered (kept_of (s.boundary r negated ascii))) (lowered (s.boundary r negated ascii)) (same_refl (lowered (s.boundary r negated ascii)))
+    under_same (s.look r behind negated ranges) least most h g = same_times least most g (lowered (kept_of (s.look r behind negated ranges))) (lowered (s.look r behind negated ranges)) (same_refl (lowered (s.look r behind negated ranges)))
     under_same (s.outside r what) least most h g = same_times least most g empty empty (same_refl empty)
 
     in_same : (p : s.PatTree) (least : ℕ) (most : Option ℕ) → MergesIn out p least most → (g : Bool) → SameSpans (times least most g (lowered (kept_of p))) (times least most g (lowered p))
@@ -93,4 +95,5 @@ module _ (out : Span → Bool) where
     in_same (s.group r captures p) least most h g = same_times least most g (lowered (kept_of (s.group r captures p))) (lowered (s.group r captures p)) (merged_same p h)
     in_same (s.anchor r kind multiline) least most h g = same_times least most g (lowered (kept_of (s.anchor r kind multiline))) (lowered (s.anchor r kind multiline)) (same_refl (lowered (s.anchor r kind multiline)))
     in_same (s.boundary r negated ascii) least most h g = same_times least most g (lowered (kept_of (s.boundary r negated ascii))) (lowered (s.boundary r negated ascii)) (same_refl (lowered (s.boundary r negated ascii)))
+    in_same (s.look r behind negated ranges) least most h g = same_times least most g (lowered (kept_of (s.look r behind negated ranges))) (lowered (s.look r behind negated ranges)) (same_refl (lowered (s.look r behind negated ranges)))
     in_same (s.outside r what) least most h g = same_times least most g empty empty (same_refl empty)

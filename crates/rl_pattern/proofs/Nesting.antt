@@ -5,7 +5,7 @@ use Rattle.std.proofs.lemmas.Bool.{cond_both, eqb-true}
 use mathlib.Core.Logic.{inl, inr, ⊎_elim}
 use Rattle.rl_pattern.specs.declared.flags.Flags.{Flags}
 use Rattle.rl_pattern.specs.Tree.{Span, span, Count, Greed, greedy, lazy, possessive, any, glyph, members, Member, Escaped, reference, Kind, capturing, named, scoped, lookaround, atomic, conditional, SyntaxNode, leaf, mark, repeat, group, nothing, seq, choice, Nodes, no_nodes, more_nodes, Branches, no_branches, more_branches, nodes, branches, Branch, branch_body, branch, whole_body, Whole}
-use Rattle.rl_pattern.specs.Codes.{TokenClass, sign, left, right, bar, brace, slash, dot, bracket, times, edge, blank, sharp, plain, EscapeClass, slashed, single, kinds, hexes, naming, octal, low, high, edges, no_escape, counts, count_of, splits, GroupPrefix, headed, letter, colon, minus, letter_p, sharps, looks, less, greater, condition, no_head, begins_name, goes_in_name, is_digit, on_letter, off_letter, with_letter, no_flags, joined}
+use Rattle.rl_pattern.specs.Codes.{is, TokenClass, sign, left, right, bar, brace, slash, dot, bracket, times, edge, blank, sharp, plain, EscapeClass, slashed, single, kinds, hexes, naming, octal, low, high, edges, no_escape, counts, count_of, splits, GroupPrefix, headed, letter, colon, minus, letter_p, sharps, looks, less, greater, condition, no_head, begins_name, goes_in_name, is_digit, on_letter, off_letter, with_letter, no_flags, joined}
 use Rattle.rl_pattern.specs.internal.Signs.{HeadIs}
 use Rattle.rl_pattern.specs.internal.Machine.{Answer, stops, goes, ends, InEscape, escape_first, escape_next, escape_rest, set_first, Set, set_step, InHead, paren, quest, after_p, after_less, group_name, group_name_goes, reference_name, reference_name_goes, asks, asks_digits, asks_name_goes, letters_on, letters_dash, letters_off, GroupStart, begins_group, begins_comment, is_reference, is_front, head_step, quest_next, after_less_next, Frame, Last, nothing_yet, an_atom, Base, Lex, between, line, comment, in_braces, counted, at_slash, in_escape, in_head, set_open, in_class, State, at, settled, put_last, put, put_item, put_leaf, put_code, put_codes, no_count, put_repeat, count_last, all_branches, next_branch, split, open_group, body_up_to, close, is_nil, is_settled, at_front, put_front, begin, pass_or_put, by_sign, go_on, end_braces, braces_step, counted_step, escape_begins, slash_step, escape_step, behind_paren, head_stops, head_answer, set_answer, step, step_at, run, observe, finish_below, finish_escape, finish_lex, finish_at, start}
 use Rattle.rl_pattern.proofs.Sound.{Holds}
@@ -367,17 +367,17 @@ WillOpen stops = Unit {0}
 WillOpen (goes h) = Opens h
 WillOpen (ends o) = BegunOpens o
 
-behind_opens : (x : GroupPrefix) → WillOpen (after_less_next x)
-behind_opens looks = tt
-behind_opens letter = tt
-behind_opens colon = tt
-behind_opens minus = tt
-behind_opens letter_p = tt
-behind_opens sharps = tt
-behind_opens less = tt
-behind_opens greater = tt
-behind_opens condition = tt
-behind_opens no_head = tt
+behind_opens : (c : ℕ) (x : GroupPrefix) → WillOpen (after_less_next x c)
+behind_opens c looks = tt
+behind_opens c letter = tt
+behind_opens c colon = tt
+behind_opens c minus = tt
+behind_opens c letter_p = tt
+behind_opens c sharps = tt
+behind_opens c less = tt
+behind_opens c greater = tt
+behind_opens c condition = tt
+behind_opens c no_head = tt
 
 pick_open : (b : Bool) (x y : Answer InHead GroupStart) → WillOpen x → WillOpen y → WillOpen (if b then x else y)
 pick_open true x y p q = p
@@ -387,7 +387,7 @@ head_opens : (text : Bool) (h : InHead) (c : ℕ) → Opens h → WillOpen (head
 head_opens text paren c o = absurd o
 head_opens text quest c o = absurd o
 head_opens text after_p c o = absurd o
-head_opens text after_less c o = behind_opens (headed c)
+head_opens text after_less c o = behind_opens c (headed c)
 head_opens text group_name c o = pick_open (begins_name text c) (goes (group_name_goes (c ∷ []))) stops tt tt
 head_opens text (group_name_goes n) c o = pick_open (c == 62) (ends (begins_group (named n))) (if goes_in_name text c then goes (group_name_goes (n ++ c ∷ [])) else stops) tt (pick_open (goes_in_name text c) (goes (group_name_goes (n ++ c ∷ []))) stops tt tt)
 head_opens text reference_name c o = absurd o
@@ -471,7 +471,7 @@ module _ (text : Bool) (b : Base) (a n : ℕ) (some : suc n ≡ length b.below) 
       go minus e = heads_deep (suc i) (letters_dash no_flags) r tt
       go letter_p e = after_p_deep (suc i) r (no_f (ap Some e))
       go sharps e = absurd (no_r (ap Some e))
-      go looks e = group_deep (suc i) (suc i) lookaround r
+      go looks e = group_deep (suc i) (suc i) (lookaround false (is "!" c)) r
       go less e = heads_deep (suc i) after_less r tt
       go greater e = group_deep (suc i) (suc i) atomic r
       go condition e = heads_deep (suc i) asks r tt

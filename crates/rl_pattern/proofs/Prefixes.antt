@@ -29,7 +29,7 @@ module _ (text : Bool) (w : List ℕ) (kept : ℕ → Bool) (g : ℕ → ℕ) wh
   splits_alike capturing bs cs e h = refl
   splits_alike (named n) bs cs e h = refl
   splits_alike (scoped f f2) bs cs e h = refl
-  splits_alike lookaround bs cs e h = refl
+  splits_alike (lookaround b n) bs cs e h = refl
   splits_alike atomic bs cs e h = refl
   splits_alike conditional bs [] e h = refl
   splits_alike conditional bs (c ∷ []) e h = refl

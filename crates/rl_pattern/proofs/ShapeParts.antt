@@ -73,7 +73,7 @@ group_part : (u : Universe) (place : Span) (k : Kind) (t : s.PatTree) → kind_f
 group_part u place capturing t e h = h
 group_part u place (named n) t e h = h
 group_part u place (scoped on off) t e h = h
-group_part u place lookaround t e h = absurd (cc e)
+group_part u place (lookaround b n) t e h = absurd (cc e)
 group_part u place atomic t e h = absurd (cc e)
 group_part u place conditional t e h = absurd (cc e)
 

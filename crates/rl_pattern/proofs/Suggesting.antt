@@ -64,7 +64,7 @@ module _ (u : Universe) where
   group_placed r capturing p i j h = h
   group_placed r (named n) p i j h = h
   group_placed r (scoped f g) p i j h = h
-  group_placed r lookaround p i j h = placed_le p i j h
+  group_placed r (lookaround b n) p i j h = placed_le p i j h
   group_placed r atomic p i j h = placed_le p i j h
   group_placed r conditional p i j h = placed_le p i j h
 
@@ -131,7 +131,7 @@ module _ (u : Universe) where
     group_somewhere r (scoped f g) t pl (at_large h) = at_large h
     group_somewhere r (scoped f g) t pl (under x y h) = inside x y h
     group_somewhere r (scoped f g) t pl (inside x y h) = at_large h
-    group_somewhere r lookaround t pl h = absurd (true≢false (sym pl))
+    group_somewhere r (lookaround b n) t pl h = absurd (true≢false (sym pl))
     group_somewhere r atomic t pl h = absurd (true≢false (sym pl))
     group_somewhere r conditional t pl h = absurd (true≢false (sym pl))
 

@@ -74,7 +74,7 @@ module _ (u : Universe) where
   group_goes r capturing t h = h
   group_goes r (named n) t h = h
   group_goes r (scoped f g) t h = h
-  group_goes r lookaround t h = refl
+  group_goes r (lookaround b n) t h = refl
   group_goes r atomic t h = refl
   group_goes r conditional t h = refl
 

@@ -3,7 +3,7 @@
 -- codes from 0.
 use Rattle.std.specs.Prelude.{ℕ, suc, ◌-◌, Bool, true, false, ◌&&◌, ◌||◌, if◌then◌else◌, nat_le, nat_lt}
 use Rattle.rl_syntax.specs.declared.span.Span.{Span}
-use Rattle.rl_syntax.specs.PatTree.{PatTree, PatTrees, BranchTrees, nothing, class, seq, choice, repeat, group, anchor, boundary, outside, no_items, item, no_branches, branch}
+use Rattle.rl_syntax.specs.PatTree.{PatTree, PatTrees, BranchTrees, nothing, class, seq, choice, repeat, group, anchor, boundary, look, outside, no_items, item, no_branches, branch}
 
 -- Whether position `t` lies from `i` up to, but not including, `j`.
 abbrev pub lies_in : ℕ → ℕ → ℕ → Bool
@@ -35,6 +35,7 @@ module _ (drop out : Span → Bool) where
     remaining (group s captures p) = group s captures (remaining p)
     remaining (anchor s kind multiline) = anchor s kind multiline
     remaining (boundary s negated ascii) = boundary s negated ascii
+    remaining (look s behind negated ranges) = look s behind negated ranges
     remaining (outside s what) = outside s what
 
     -- What is left of a sequence of items.

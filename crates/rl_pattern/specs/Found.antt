@@ -3,7 +3,7 @@
 -- the same position, by rank. The outer anchors of a pattern with only one branch are the leading ones at its start, `\A` or
 -- `^`, and the trailing ones at its end, `\Z` or `$`. `^` and `$` are among them only where MULTILINE isn't in
 -- force.
-use Rattle.std.specs.Prelude.{ℕ, Bool, true, false, not, ◌&&◌, ◌||◌, if◌then◌else◌, nat_lt, nat_le, ◌==◌, List, [], ◌∷◌, ◌++◌, reverse, flat_map, Option, Some, None}
+use Rattle.std.specs.Prelude.{ℕ, Bool, true, false, not, ◌&&◌, ◌||◌, if◌then◌else◌, nat_lt, nat_le, ◌==◌, List, [], ◌∷◌, ◌++◌, reverse, flat_map, Option, Some, None, is_none}
 use Rattle.std.specs.List.{list_any}
 use Rattle.std.specs.Str.{bytes_eq}
 use Rattle.rl_pattern.specs.declared.flags.Flags.{Flags}
@@ -14,6 +14,7 @@ pub use Rattle.rl_syntax.specs.declared.anchors.Trail.TheVariants.{None as no_tr
 pub use Rattle.rl_pattern.specs.declared.faults.Fault.{Fault}
 use Rattle.rl_pattern.specs.Tree.{Span, Count, Greed, possessive, Escaped, code, too_large, by_name, reference, Member, one, range, Leaf, any, glyph, members, Assertion, caret, text_start, dollar, text_end, Kind, named, scoped, lookaround, atomic, conditional, SyntaxNode, leaf, mark, repeat, group, nothing, seq, choice, Nodes, no_nodes, more_nodes, Branches, no_branches, more_branches, branch_body, Front, Whole}
 use Rattle.rl_pattern.specs.Codes.{joined}
+use Rattle.rl_pattern.specs.Profile.{Profile, Narrow, Wide, before_end, for_item, for_body, reads_dollar}
 
 -- The rank of a feature. Of two features at the same position, the one with the lower rank is reported.
 abbrev pub rank : Feature → ℕ
@@ -115,31 +116,76 @@ overlap f g = (f.ignore_case && g.ignore_case) || ((f.multiline && g.multiline) 
 -- `u` comes with `a` or in a `bytes`, or if a letter is on both sides of the `-`. `text` says whether the pattern is a `str`.
 abbrev pub kind_faults : Bool → ℕ → Kind → List Fault
 kind_faults text i (scoped on off) = fault_if on.locale i is_locale ++ fault_if (on.unicode && (on.ascii || not text) || overlap on off) i is_flag_clash
-kind_faults text i lookaround = fault i is_lookaround ∷ []
+kind_faults text i (lookaround behind negated) = fault i is_lookaround ∷ []
 kind_faults text i atomic = fault i is_atomic ∷ []
 kind_faults text i conditional = fault i is_conditional ∷ []
 kind_faults text i _ = []
 
--- The faults of a node and the nodes in it, except duplicate group names. `text` says whether the pattern is a `str`.
-abbrev mutual
-  pub node_faults : Bool → SyntaxNode → List Fault
-  node_faults text (leaf s f x) = leaf_faults s x
-  node_faults text (mark s f m) = mark_faults s f m
-  node_faults text (repeat s q n g p) = count_faults q.from n g ++ node_faults text p
-  node_faults text (group s k p) = kind_faults text s.from k ++ node_faults text p
-  node_faults text (nothing s) = []
-  node_faults text (seq s ps) = nodes_faults text ps
-  node_faults text (choice s bs) = branches_faults text bs
+-- Whether a group of this kind is only written for its flags or its parentheses: it captures nothing and isn't refused.
+abbrev pub is_scoped : Kind → Bool
+is_scoped (scoped on off) = true
+is_scoped _ = false
 
-  -- The faults in a sequence of nodes, in order.
-  pub nodes_faults : Bool → Nodes → List Fault
-  nodes_faults text no_nodes = []
-  nodes_faults text (more_nodes p ps) = node_faults text p ++ nodes_faults text ps
+-- Whether the body of a lookaround is one character and nothing in it is refused. It is a leaf, a group that doesn't capture
+-- around such a body, or a choice between such bodies. `text` says whether the pattern is a `str`.
+abbrev mutual
+  pub is_character : Bool → SyntaxNode → Bool
+  is_character text (leaf s f x) = is_none (first_fault (leaf_faults s x))
+  is_character text (group s k p) = is_scoped k && (is_none (first_fault (kind_faults text s.from k)) && is_character text p)
+  is_character text (choice s bs) = are_characters text bs
+  is_character text _ = false
+
+  -- Whether each branch of a choice is one character and nothing in it is refused.
+  pub are_characters : Bool → Branches → Bool
+  are_characters text no_branches = true
+  are_characters text (more_branches s p bs) = is_character text p && are_characters text bs
+
+-- Whether a group of this kind with the body `p` is a lookaround that the profile reads. `text` says whether the pattern is a
+-- `str`.
+abbrev pub reads_look : Profile → Bool → Kind → SyntaxNode → Bool
+reads_look Narrow text k p = false
+reads_look (Wide d) text (lookaround behind negated) p = is_character text p
+reads_look (Wide d) text _ p = false
+
+-- Whether there are no further nodes.
+abbrev pub is_end : Nodes → Bool
+is_end no_nodes = true
+is_end (more_nodes p ps) = false
+
+-- The faults of a node and the nodes in it under the profile, except duplicate group names. `text` says whether the pattern is
+-- a `str`.
+abbrev mutual
+  pub node_faults_in : Profile → Bool → SyntaxNode → List Fault
+  node_faults_in r text (leaf s f x) = leaf_faults s x
+  node_faults_in r text (mark s f m) = if reads_dollar r then [] else mark_faults s f m
+  node_faults_in r text (repeat s q n g p) = count_faults q.from n g ++ node_faults_in (before_end r) text p
+  node_faults_in r text (group s k p) = if reads_look r text k p then [] else kind_faults text s.from k ++ node_faults_in r text p
+  node_faults_in r text (nothing s) = []
+  node_faults_in r text (seq s ps) = nodes_faults_in r text ps
+  node_faults_in r text (choice s bs) = branches_faults_in r text bs
+
+  -- The faults in a sequence of nodes, in order. Only the last node may end the pattern.
+  pub nodes_faults_in : Profile → Bool → Nodes → List Fault
+  nodes_faults_in r text no_nodes = []
+  nodes_faults_in r text (more_nodes p ps) = node_faults_in (for_item r (is_end ps)) text p ++ nodes_faults_in r text ps
 
   -- The faults in the branches of a choice, in order.
-  pub branches_faults : Bool → Branches → List Fault
-  branches_faults text no_branches = []
-  branches_faults text (more_branches s p bs) = node_faults text p ++ branches_faults text bs
+  pub branches_faults_in : Profile → Bool → Branches → List Fault
+  branches_faults_in r text no_branches = []
+  branches_faults_in r text (more_branches s p bs) = node_faults_in r text p ++ branches_faults_in r text bs
+
+-- The faults of a node and the nodes in it under the narrow profile, except duplicate group names. `text` says whether the
+-- pattern is a `str`.
+abbrev pub node_faults : Bool → SyntaxNode → List Fault
+node_faults = node_faults_in Narrow
+
+-- The faults in a sequence of nodes under the narrow profile, in order.
+abbrev pub nodes_faults : Bool → Nodes → List Fault
+nodes_faults = nodes_faults_in Narrow
+
+-- The faults in the branches of a choice under the narrow profile, in order.
+abbrev pub branches_faults : Bool → Branches → List Fault
+branches_faults = branches_faults_in Narrow
 
 -- A group name in a pattern: the codes of the name, and as `place` the position of the opening parenthesis of its group.
 pub record Called : Type 0 where
@@ -266,15 +312,23 @@ inner_of s p (Some ps) = record { body = branch_body s (inner_items ps); leading
 abbrev pub inner : Whole → Inner
 inner p = inner_of p.place p.body (items_of p.body)
 
--- All faults of a whole pattern: in its flag groups, in its group names, and in the nodes that are left without the outer
--- anchors. `call` has the flags of the call, and `text` says whether the pattern is a `str`.
-abbrev pub whole_faults : Flags → Bool → Whole → List Fault
-whole_faults call text p = front_faults text call p.fronts ++ (name_faults [] (node_names p.body) ++ node_faults text (inner p).body)
+-- All faults of a whole pattern under the profile: in its flag groups, in its group names, and in the nodes that are left
+-- without the outer anchors. `call` has the flags of the call, and `text` says whether the pattern is a `str`.
+abbrev pub whole_faults_in : Profile → Flags → Bool → Whole → List Fault
+whole_faults_in r call text p = front_faults text call p.fronts ++ (name_faults [] (node_names p.body) ++ node_faults_in (for_body r (inner p).trail) text (inner p).body)
 
--- The fault that is reported of a whole pattern, or `None` if nothing in it is refused. `call` has the flags of the call, and
--- `text` says whether the pattern is a `str`.
+-- The fault that is reported of a whole pattern under the profile, or `None` if nothing in it is refused. `call` has the flags
+-- of the call, and `text` says whether the pattern is a `str`.
+abbrev pub refused_in : Profile → Flags → Bool → Whole → Option Fault
+refused_in r call text p = first_fault (whole_faults_in r call text p)
+
+-- All faults of a whole pattern under the narrow profile.
+abbrev pub whole_faults : Flags → Bool → Whole → List Fault
+whole_faults = whole_faults_in Narrow
+
+-- The fault that is reported of a whole pattern under the narrow profile, or `None` if nothing in it is refused.
 abbrev pub refused : Flags → Bool → Whole → Option Fault
-refused call text p = first_fault (whole_faults call text p)
+refused = refused_in Narrow
 
 -- The reason to refuse the flags `f` of the call, or `None`: LOCALE, or UNICODE together with ASCII or for a `bytes` pattern.
 -- `text` says whether the pattern is a `str`.

@@ -34,7 +34,7 @@ use Prim.Native.String.{String}
 use Rattle.std.specs.Prelude.{◌≡◌, ◌≢◌, ◌⊎◌, ℕ, suc, ◌<◌, Bool, true, false, List, [], ◌∷◌, ◌++◌, length, Some, slice_get, codes}
 use Rattle.rl_pattern.specs.declared.flags.Flags.{Flags}
 use Rattle.rl_pattern.specs.Tree.{span, Named, Count, Greed, greedy, lazy, possessive, Escaped, code, by_name, kind, reference, Member, one, range, any, glyph, members, Kind, capturing, named, scoped, lookaround, atomic, conditional, Assertion, SyntaxNode, leaf, mark, repeat, group, Branch, branch, whole_body, Front, Whole}
-use Rattle.rl_pattern.specs.Codes.{code_of, sign, blank, sharp, plain, times, edge, numeral, low_digit, is_digit, hex, begins_name, goes_in_name, slashed, single, kinds, hexes, naming, octal, low, high, edges, EscapeClass, octal_code, hex_code, is_kind, headed, looks, on_letter, off_letter, no_flags, with_letter, joined, inside, splits, with_digit, counts, count_of}
+use Rattle.rl_pattern.specs.Codes.{code_of, is, sign, blank, sharp, plain, times, edge, numeral, low_digit, is_digit, hex, begins_name, goes_in_name, slashed, single, kinds, hexes, naming, octal, low, high, edges, EscapeClass, octal_code, hex_code, is_kind, headed, looks, on_letter, off_letter, no_flags, with_letter, joined, inside, splits, with_digit, counts, count_of}
 
 -- Holds if the code is a literal between items under the flags `fl`: it is plain, or it is white space or `#` without VERBOSE.
 abbrev pub is_literal : Flags → ℕ → Type 0
@@ -204,9 +204,9 @@ module _ (text : Bool) (w : List ℕ) where
     -- Form: "(?-" off_flag+ ":"
     groups_off : {i k : ℕ} {g : Flags} → SpelledAt i "(?-" → Letters off_letter (behind i "(?-") k g → SpelledAt k ":" → Opening i (suc k) (scoped no_flags g)
     -- Form: "(?=" or "(?!"
-    looks_ahead : {i c : ℕ} → SpelledAt i "(?" → At (behind i "(?") c → headed c ≡ looks → Opening i (suc (behind i "(?")) lookaround
+    looks_ahead : {i c : ℕ} → SpelledAt i "(?" → At (behind i "(?") c → headed c ≡ looks → Opening i (suc (behind i "(?")) (lookaround false (is "!" c))
     -- Form: "(?<=" or "(?<!"
-    looks_behind : {i c : ℕ} → SpelledAt i "(?<" → At (behind i "(?<") c → headed c ≡ looks → Opening i (suc (behind i "(?<")) lookaround
+    looks_behind : {i c : ℕ} → SpelledAt i "(?<" → At (behind i "(?<") c → headed c ≡ looks → Opening i (suc (behind i "(?<")) (lookaround true (is "!" c))
     -- Form: "(?>"
     cuts : {i : ℕ} → SpelledAt i "(?>" → Opening i (behind i "(?>") atomic
     -- Form: "(?(" digit+ ")"

@@ -2,9 +2,11 @@ pub mod Tree
 pub mod Codes
 pub mod Grammar
 pub mod Viable
+pub mod Profile
 pub mod Found
 pub mod Answers
 pub mod Parsed
+pub mod Beyond
 pub mod Shape
 pub mod Thinned
 pub mod Cut

@@ -82,11 +82,3 @@ IsParsed flags u w (Err (error.Outside p what)) = IsRefused flags u w p what ⊎
 IsParsed flags u w (Err (error.TooDeep p)) = IsTooDeep flags u w p
 IsParsed flags u w (Err (error.Syntax n)) = IsMisspelled flags u w n
 IsParsed flags u w (Err error.OutOfMemory) = Unit {0}
-
--- Holds if the result is right for a syntax tree that was read: its pattern if nothing in it is refused, otherwise the error
--- `Outside` with the fault that is reported. Running out of memory is always allowed. No other error is.
-abbrev pub IsOutcome : Flags → Universe → t.Whole → Result Pattern PatError → Type 0
-IsOutcome flags u whole (Ok found) = (refused flags (is_text u) whole ≡ None) × IsPatternOf u (inner whole) found
-IsOutcome flags u whole (Err (error.Outside p what)) = refused flags (is_text u) whole ≡ Some (fault p what)
-IsOutcome flags u whole (Err error.OutOfMemory) = Unit {0}
-IsOutcome flags u whole _ = ⊥

@@ -6,7 +6,7 @@ use Rattle.std.specs.Prelude.{◌≡◌, ℕ, Bool, true, false, not, ◌&&◌, 
 use Rattle.rl_syntax.specs.declared.span.Span.{Span}
 use Rattle.rl_syntax.specs.Tree.{Tree}
 use Rattle.rl_syntax.specs.Lowering.{lowered}
-use Rattle.rl_syntax.specs.PatTree.{PatTree, PatTrees, BranchTrees, nothing, class, seq, choice, repeat, group, anchor, boundary, outside, no_items, item, no_branches, branch}
+use Rattle.rl_syntax.specs.PatTree.{PatTree, PatTrees, BranchTrees, nothing, class, seq, choice, repeat, group, anchor, boundary, look, outside, no_items, item, no_branches, branch}
 use Rattle.rl_pattern.specs.Cut.{remaining, gone}
 use Rattle.rl_pattern.specs.Thinned.{kept_from}
 
@@ -35,6 +35,7 @@ abbrev mutual
   holds_capture (group s captures p) = captures || holds_capture p
   holds_capture (anchor s kind multiline) = false
   holds_capture (boundary s negated ascii) = false
+  holds_capture (look s behind negated ranges) = false
   holds_capture (outside s what) = false
 
   -- Whether some item is a capturing group or contains one.
@@ -59,6 +60,7 @@ abbrev mutual
   holds_guard (group s captures p) = holds_guard p
   holds_guard (anchor s kind multiline) = true
   holds_guard (boundary s negated ascii) = true
+  holds_guard (look s behind negated ranges) = true
   holds_guard (outside s what) = false
 
   -- Whether some item is a guard or contains one.
@@ -109,6 +111,7 @@ module _ (drop : Span → Bool) where
     may_go (group s captures p) = may_go p
     may_go (anchor s kind multiline) = true
     may_go (boundary s negated ascii) = true
+    may_go (look s behind negated ranges) = true
     may_go (outside s what) = true
 
     -- Whether the selected branches in each item of a sequence may be dropped.

@@ -156,8 +156,11 @@ fn splits(kind: &Kind, branches: &Items<Branch>) -> bool
 {
     match kind {
         Kind::Conditional => branches.len() < 2,
-        Kind::Capturing | Kind::Named(_) | Kind::Scoped(_, _) | Kind::Lookaround | Kind::Atomic =>
-            true,
+        Kind::Capturing
+        | Kind::Named(_)
+        | Kind::Scoped(_, _)
+        | Kind::Lookaround { .. }
+        | Kind::Atomic => true,
     }
 }
 
@@ -193,8 +196,11 @@ fn inside(kind: &Kind, flags: Flags) -> Flags
 {
     match kind {
         Kind::Scoped(on, off) => scoped_flags(*on, *off, flags),
-        Kind::Capturing | Kind::Named(_) | Kind::Lookaround | Kind::Atomic | Kind::Conditional =>
-            flags,
+        Kind::Capturing
+        | Kind::Named(_)
+        | Kind::Lookaround { .. }
+        | Kind::Atomic
+        | Kind::Conditional => flags,
     }
 }
 

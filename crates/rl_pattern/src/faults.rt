@@ -7,6 +7,7 @@ ghost use Rattle.rl_pattern.specs.Tree as t;
 ghost use Rattle.rl_pattern.specs.Found as f;
 
 use crate::flags::{Flags, joined};
+use crate::profile::{Profile, before_end, for_item, reads_dollar};
 use crate::tree::{
     Assertion, Branch, Count, Escaped, Front, Greed, Kind, Leaf, Member, SyntaxNode,
 };
@@ -227,7 +228,7 @@ fn kind_fault(text: bool, place: u32, kind: &Kind) -> Option<Fault>
             let clash = on.unicode && (on.ascii || !text) || overlap(*on, *off);
             earlier(locale, fault_if(clash, place, Feature::FlagClash))
         }
-        Kind::Lookaround => Some(Fault {
+        Kind::Lookaround { .. } => Some(Fault {
             place,
             what: Feature::Lookaround,
         }),
@@ -242,50 +243,125 @@ fn kind_fault(text: bool, place: u32, kind: &Kind) -> Option<Fault>
     }
 }
 
-/// Returns the fault of a node and the nodes in it that is reported, apart from duplicate group names, or `None` if nothing is
-/// refused. `text` says whether the pattern is a `str`.
-#[cycle(node_fault)]
-#[tactic(auto, using(crate::proofs::FirstFault::first_of_joined))]
-pub(crate) fn node_fault(text: bool, node: &SyntaxNode) -> Option<Fault>
-    ensures { result ≡ f.first_fault (f.node_faults text (node_of node.now)) }
+/// Whether a group of this kind captures nothing and isn't refused.
+fn is_scoped(kind: &Kind) -> bool
+    ensures { result ≡ f.is_scoped kind.now }
 {
-    match node {
-        SyntaxNode::Leaf(span, _, leaf) => leaf_fault(*span, leaf),
-        SyntaxNode::Assertion(span, flags, mark) => mark_fault(*span, *flags, *mark),
-        SyntaxNode::Repeat(_, mark, count, greed, body) => {
-            let own = count_fault(mark.from, *count, *greed);
-            earlier(own, node_fault(text, body))
-        }
-        SyntaxNode::Group(span, kind, body) => {
-            let own = kind_fault(text, span.from, kind);
-            earlier(own, node_fault(text, body))
-        }
-        SyntaxNode::Nothing(_) => None,
-        SyntaxNode::Seq(_, items) => nodes_fault(text, items.as_slice()),
-        SyntaxNode::Choice(_, branches) => branches_fault(text, branches.as_slice()),
+    match kind {
+        Kind::Scoped(_, _) => true,
+        Kind::Capturing
+        | Kind::Named(_)
+        | Kind::Lookaround { .. }
+        | Kind::Atomic
+        | Kind::Conditional => false,
     }
 }
 
-/// Returns the first fault in a sequence of nodes.
+/// Whether the body of a lookaround is one character and nothing in it is refused. `text` says whether the pattern is a `str`.
+#[cycle(is_character)]
+fn is_character(text: bool, node: &SyntaxNode) -> bool
+    ensures { result ≡ f.is_character text (node_of node.now) }
+{
+    match node {
+        SyntaxNode::Leaf(span, _, leaf) => leaf_fault(*span, leaf).is_none(),
+        SyntaxNode::Group(span, kind, body) => {
+            is_scoped(kind)
+                && kind_fault(text, span.from, kind).is_none()
+                && is_character(text, body)
+        }
+        SyntaxNode::Choice(_, branches) => are_characters(text, branches.as_slice()),
+        SyntaxNode::Assertion(_, _, _)
+        | SyntaxNode::Repeat(_, _, _, _, _)
+        | SyntaxNode::Nothing(_)
+        | SyntaxNode::Seq(_, _) => false,
+    }
+}
+
+/// Whether each branch of a choice is one character and nothing in it is refused.
+#[cycle(is_character)]
+fn are_characters(text: bool, branches: &[Branch]) -> bool
+    ensures { result ≡ f.are_characters text (t.branches (map branch_of branches.now)) }
+{
+    let mut all = true;
+    for branch in branches {
+        all = all && is_character(text, &branch.body);
+    }
+    all
+}
+
+/// Whether a group of this kind with this body is a lookaround that the profile reads. `text` says whether the pattern is a
+/// `str`.
+pub(crate) fn reads_look(profile: Profile, text: bool, kind: &Kind, body: &SyntaxNode) -> bool
+    ensures { result ≡ f.reads_look profile text kind.now (node_of body.now) }
+{
+    match profile {
+        Profile::Narrow => false,
+        Profile::Wide(_) => match kind {
+            Kind::Lookaround { .. } => is_character(text, body),
+            Kind::Capturing
+            | Kind::Named(_)
+            | Kind::Scoped(_, _)
+            | Kind::Atomic
+            | Kind::Conditional => false,
+        },
+    }
+}
+
+/// Returns the fault of a node and the nodes in it that is reported, apart from duplicate group names, or `None` if nothing is
+/// refused under the profile. `text` says whether the pattern is a `str`.
 #[cycle(node_fault)]
-fn nodes_fault(text: bool, nodes: &[SyntaxNode]) -> Option<Fault>
-    ensures { result ≡ f.first_fault (f.nodes_faults text (t.nodes (map node_of nodes.now))) }
+#[tactic(auto, using(crate::proofs::FirstFault::first_of_joined))]
+pub(crate) fn node_fault(profile: Profile, text: bool, node: &SyntaxNode) -> Option<Fault>
+    ensures { result ≡ f.first_fault (f.node_faults_in profile text (node_of node.now)) }
+{
+    match node {
+        SyntaxNode::Leaf(span, _, leaf) => leaf_fault(*span, leaf),
+        SyntaxNode::Assertion(span, flags, mark) => {
+            if reads_dollar(profile) {
+                None
+            } else {
+                mark_fault(*span, *flags, *mark)
+            }
+        }
+        SyntaxNode::Repeat(_, mark, count, greed, body) => {
+            let own = count_fault(mark.from, *count, *greed);
+            earlier(own, node_fault(before_end(profile), text, body))
+        }
+        SyntaxNode::Group(span, kind, body) => {
+            if reads_look(profile, text, kind, body) {
+                None
+            } else {
+                let own = kind_fault(text, span.from, kind);
+                earlier(own, node_fault(profile, text, body))
+            }
+        }
+        SyntaxNode::Nothing(_) => None,
+        SyntaxNode::Seq(_, items) => nodes_fault(profile, text, items.as_slice()),
+        SyntaxNode::Choice(_, branches) => branches_fault(profile, text, branches.as_slice()),
+    }
+}
+
+/// Returns the first fault in a sequence of nodes. Only the last one may end the pattern.
+#[cycle(node_fault)]
+fn nodes_fault(profile: Profile, text: bool, nodes: &[SyntaxNode]) -> Option<Fault>
+    ensures { result ≡ f.first_fault (f.nodes_faults_in profile text (t.nodes (map node_of nodes.now))) }
 {
     let mut best = None;
-    for node in nodes {
-        best = earlier(best, node_fault(text, node));
+    for (place, node) in nodes.iter().enumerate() {
+        let own = for_item(profile, place + 1 == nodes.len());
+        best = earlier(best, node_fault(own, text, node));
     }
     best
 }
 
 /// Returns the first fault in the branches of a choice.
 #[cycle(node_fault)]
-fn branches_fault(text: bool, branches: &[Branch]) -> Option<Fault>
-    ensures { result ≡ f.first_fault (f.branches_faults text (t.branches (map branch_of branches.now))) }
+fn branches_fault(profile: Profile, text: bool, branches: &[Branch]) -> Option<Fault>
+    ensures { result ≡ f.first_fault (f.branches_faults_in profile text (t.branches (map branch_of branches.now))) }
 {
     let mut best = None;
     for branch in branches {
-        best = earlier(best, node_fault(text, &branch.body));
+        best = earlier(best, node_fault(profile, text, &branch.body));
     }
     best
 }

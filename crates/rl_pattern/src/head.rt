@@ -37,6 +37,17 @@ pub(crate) fn behind_paren(head: &InHead) -> bool
     }
 }
 
+/// Returns the answer of a head that this character, `=` or `!`, completes: it begins a lookbehind if `behind` is `true`,
+/// otherwise a lookahead.
+fn looks(behind: bool, code: u32) -> HeadAnswer
+    ensures { result ≡ Answer.Ends (GroupStart.BeginsGroup (Kind.Lookaround behind (is "!" code))) }
+{
+    Answer::Ends(GroupStart::BeginsGroup(Kind::Lookaround {
+        behind,
+        negated: code == '!' as u32,
+    }))
+}
+
 /// Returns the answer of a head to the character after `(?`, given its class.
 fn quest_next(next: GroupPrefix, code: u32) -> HeadAnswer
     ensures { result ≡ quest_next next code }
@@ -50,7 +61,7 @@ fn quest_next(next: GroupPrefix, code: u32) -> HeadAnswer
         GroupPrefix::Minus => Answer::Goes(InHead::LettersDash(no_flags())),
         GroupPrefix::LetterP => Answer::Goes(InHead::AfterP),
         GroupPrefix::Sharps => Answer::Ends(GroupStart::BeginsComment),
-        GroupPrefix::Looks => Answer::Ends(GroupStart::BeginsGroup(Kind::Lookaround)),
+        GroupPrefix::Looks => looks(false, code),
         GroupPrefix::Less => Answer::Goes(InHead::AfterLess),
         GroupPrefix::Greater => Answer::Ends(GroupStart::BeginsGroup(Kind::Atomic)),
         GroupPrefix::Condition => Answer::Goes(InHead::Asks),
@@ -59,11 +70,11 @@ fn quest_next(next: GroupPrefix, code: u32) -> HeadAnswer
 }
 
 /// Returns the answer of a head to the character after `(?<`, given its class.
-fn after_less_next(next: GroupPrefix) -> HeadAnswer
-    ensures { result ≡ after_less_next next }
+fn after_less_next(next: GroupPrefix, code: u32) -> HeadAnswer
+    ensures { result ≡ after_less_next next code }
 {
     match next {
-        GroupPrefix::Looks => Answer::Ends(GroupStart::BeginsGroup(Kind::Lookaround)),
+        GroupPrefix::Looks => looks(true, code),
         GroupPrefix::Letter
         | GroupPrefix::Colon
         | GroupPrefix::Minus
@@ -165,7 +176,7 @@ pub(crate) fn head_step(
                 Ok(goes_if(code == '=' as u32, InHead::ReferenceName))
             }
         }
-        InHead::AfterLess => Ok(after_less_next(headed(code))),
+        InHead::AfterLess => Ok(after_less_next(headed(code), code)),
         InHead::GroupName => name_goes(begins_name(text, code), Items::new(alloc), code),
         InHead::GroupNameGoes(name) => group_name_next(text, name, code),
         InHead::ReferenceName => Ok(goes_if(begins_name(text, code), InHead::ReferenceNameGoes)),

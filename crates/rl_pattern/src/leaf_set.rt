@@ -1,13 +1,17 @@
-//! The characters that a leaf of a syntax tree matches. A leaf is a `.`, a character, an escape, a reference or a class.
+//! The characters that a leaf of a syntax tree matches, or the body of a lookaround of one character. A leaf is a `.`, a character, an escape, a reference or a class.
 
-ghost use Rattle.std.specs.Prelude.{◌≡◌, ℕ, Bool, ◌&&◌, ◌||◌, ◌==◌, not, IfOk, false};
+ghost use Rattle.std.specs.Prelude.{◌≡◌, ℕ, Bool, ◌&&◌, ◌||◌, ◌==◌, not, IfOk, false, map};
 ghost use Rattle.rl_ranges.specs.Codes.{has, is_between, IsInside};
+ghost use Rattle.rl_ranges.specs.Listed.{ranges_below};
+ghost use Rattle.rl_ranges.specs.Text.{code_count};
+ghost use Rattle.rl_pattern.specs.Tree as t;
 ghost use Rattle.rl_pattern.specs.Tree.{Span, any, range};
-ghost use Rattle.rl_pattern.specs.Shape.{within, leaf_codes};
+ghost use Rattle.rl_pattern.specs.Shape.{within, leaf_codes, character_codes, branches_codes};
+ghost use Rattle.rl_pattern.specs.internal.Views.{node_of, branch_of};
 ghost use Rattle.rl_pattern.specs.internal.LeafSets.{closing_in, kind_in, escaped_in, code_in, codes_in, class_in, classes_in, members_in};
 
 use crate::flags::Flags;
-use crate::tree::{Escaped, Leaf, Member};
+use crate::tree::{Branch, Escaped, Leaf, Member, SyntaxNode};
 use rl_lists::OutOfMemory;
 use rl_ranges::{CodeSet, Named, Universe};
 use std::alloc::Global;
@@ -215,4 +219,54 @@ pub(crate) fn leaf_set(
             }
         }
     }
+}
+
+/// Returns the set of the codes that the body of a lookaround matches, if it is one character.
+#[cycle(body_set)]
+fn body_set(alloc: Global, universe: Universe, node: &SyntaxNode) -> Result<CodeSet, OutOfMemory>
+    ensures { IfOk result (λ s. (c : ℕ) → has s c ≡ character_codes universe (node_of node.now) c) }
+{
+    match node {
+        SyntaxNode::Leaf(_, flags, leaf) => leaf_set(alloc, universe, *flags, leaf),
+        SyntaxNode::Group(_, _, body) => body_set(alloc, universe, body),
+        SyntaxNode::Choice(_, branches) => branches_set(alloc, universe, branches.as_slice()),
+        SyntaxNode::Assertion(_, _, _)
+        | SyntaxNode::Repeat(_, _, _, _, _)
+        | SyntaxNode::Nothing(_)
+        | SyntaxNode::Seq(_, _) => Ok(no_codes(alloc)),
+    }
+}
+
+/// Returns the set of the codes that some branch of a choice in the body of a lookaround matches.
+#[cycle(body_set)]
+fn branches_set(
+    alloc: Global,
+    universe: Universe,
+    branches: &[Branch],
+) -> Result<CodeSet, OutOfMemory>
+    ensures { IfOk result (λ s. (c : ℕ) → has s c ≡ branches_codes universe (t.branches (map branch_of branches.now)) c) }
+{
+    let mut set = no_codes(alloc);
+    for branch in branches {
+        let more = body_set(alloc, universe, &branch.body)?;
+        set = set.union(&more)?;
+    }
+    Ok(set)
+}
+
+/// Returns the set of the codes that the body of a lookaround matches, which must be one character. Its list of ranges is the
+/// one that these codes determine.
+///
+/// # Errors
+/// [`OutOfMemory`] if there is no memory for the set.
+pub(crate) fn character_set(
+    alloc: Global,
+    universe: Universe,
+    node: &SyntaxNode,
+) -> Result<CodeSet, OutOfMemory>
+    ensures { IfOk result (λ s. s ≡ ranges_below (code_count universe) (character_codes universe (node_of node.now))) }
+{
+    let set = body_set(alloc, universe, node)?;
+    set.ranges_are_known();
+    Ok(set)
 }

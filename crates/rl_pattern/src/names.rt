@@ -45,7 +45,7 @@ fn with_name(
         }
         Kind::Capturing
         | Kind::Scoped(_, _)
-        | Kind::Lookaround
+        | Kind::Lookaround { .. }
         | Kind::Atomic
         | Kind::Conditional => Ok(found),
     }

@@ -4,15 +4,18 @@ ghost use Rattle.std.specs.Prelude.{◌≡◌, ℕ, ◌<◌, ◌≤◌, List, If
 ghost use Rattle.rl_ranges.specs.Text.{IsText};
 ghost use Rattle.rl_syntax.specs.IsPattern.{IsPattern};
 ghost use Rattle.rl_pattern.specs.Grammar.{Spells};
-ghost use Rattle.rl_pattern.specs.internal.Judged.{left_of};
-ghost use Rattle.rl_pattern.specs.Parsed.{IsParsed, IsPatternOf, IsOutcome};
-ghost use Rattle.rl_pattern.specs.Shape.{is_text, shape};
+ghost use Rattle.rl_pattern.specs.internal.Judged.{left_of, IsOutcome, IsReading};
+ghost use Rattle.rl_pattern.specs.Parsed.{IsParsed};
+ghost use Rattle.rl_pattern.specs.Beyond.{IsParsedBeyond, IsPatternIn};
+ghost use Rattle.rl_pattern.specs.Profile as profiles;
+ghost use Rattle.rl_pattern.specs.Shape.{is_text, shape_in};
 ghost use Rattle.rl_pattern.specs.internal.Views.{whole_of};
 
 use crate::faults::refused_flags;
 use crate::flags::Flags;
 use crate::inner::Inner;
 use crate::limits::MOST_CODES;
+use crate::profile::{Dollar, Profile, for_body};
 use crate::read::{ReadError, read};
 use crate::refused::{Judged, judge};
 use crate::shape::{is_text, node_pat};
@@ -49,30 +52,64 @@ impl From<OutOfMemory> for PatError {
     }
 }
 
-/// Returns the pattern of a syntax tree without outer anchors.
-fn pattern_of(alloc: Global, left: Inner, universe: Universe) -> Result<Pattern, OutOfMemory>
-    requires { IsPattern universe (shape universe (left_of left).body) }
-    ensures { IfOk result (IsPatternOf universe (left_of left)) }
+/// Returns the pattern of a syntax tree without outer anchors, under the profile.
+fn pattern_of(
+    alloc: Global,
+    profile: Profile,
+    left: Inner,
+    universe: Universe,
+) -> Result<Pattern, OutOfMemory>
+    requires { IsPattern universe (shape_in (profiles.for_body profile (left_of left).trail) universe (left_of left).body) }
+    ensures { IfOk result (IsPatternIn profile universe (left_of left)) }
 {
-    let body = node_pat(alloc, universe, &left.body);
+    let inner = for_body(profile, left.trailing);
+    let body = node_pat(alloc, inner, universe, &left.body);
     let (leading, trailing) = (left.leading, left.trailing);
     drop(left);
     Ok(Pattern::new(body?, leading, trailing, universe))
 }
 
-/// Returns the result of parsing if the codes spell this syntax tree: its pattern, or the fault that is reported.
+/// Returns the result of parsing by the profile if the codes spell this syntax tree: its pattern, or the fault that is
+/// reported.
 fn outcome(
     alloc: Global,
+    profile: Profile,
     whole: Whole,
     flags: Flags,
     universe: Universe,
 ) -> Result<Pattern, PatError>
     requires { (w : List ℕ) × Spells flags (is_text universe) w (whole_of whole) }
-    ensures { IsOutcome flags universe (whole_of whole) result }
+    ensures { IsOutcome profile flags universe (whole_of whole) result }
 {
-    match judge(alloc, flags, is_text(universe), whole)? {
+    match judge(alloc, profile, flags, is_text(universe), whole)? {
         Judged::Refused(fault) => Err(PatError::Outside(fault.place, fault.what)),
-        Judged::Left(left) => Ok(pattern_of(alloc, left, universe)?),
+        Judged::Left(left) => Ok(pattern_of(alloc, profile, left, universe)?),
+    }
+}
+
+/// Returns the syntax tree that the codes spell under the flags of the call, or the error that applies if they aren't read or
+/// spell none.
+fn reading(
+    alloc: Global,
+    codes: &Codes,
+    flags: Flags,
+    universe: Universe,
+) -> Result<Whole, PatError>
+    requires { IsText universe codes.now }
+    ensures { IsReading flags universe codes.now result }
+{
+    if codes.len() > MOST_CODES {
+        return Err(PatError::TooLong);
+    }
+    let text = is_text(universe);
+    match refused_flags(flags, text) {
+        Some(what) => Err(PatError::Outside(0, what)),
+        None => match read(alloc, codes.as_slice(), flags, text) {
+            Ok(whole) => Ok(whole),
+            Err(ReadError::Syntax(place)) => Err(PatError::Syntax(place)),
+            Err(ReadError::TooDeep(place)) => Err(PatError::TooDeep(place)),
+            Err(ReadError::OutOfMemory) => Err(PatError::OutOfMemory),
+        },
     }
 }
 
@@ -96,17 +133,31 @@ pub fn parse(
     requires { IsText universe codes.now }
     ensures { IsParsed flags universe codes.now result }
 {
-    if codes.len() > MOST_CODES {
-        return Err(PatError::TooLong);
+    match reading(alloc, codes, flags, universe) {
+        Ok(whole) => outcome(alloc, Profile::Narrow, whole, flags, universe),
+        Err(error) => Err(error),
     }
-    let text = is_text(universe);
-    match refused_flags(flags, text) {
-        Some(what) => Err(PatError::Outside(0, what)),
-        None => match read(alloc, codes.as_slice(), flags, text) {
-            Ok(whole) => outcome(alloc, whole, flags, universe),
-            Err(ReadError::Syntax(place)) => Err(PatError::Syntax(place)),
-            Err(ReadError::TooDeep(place)) => Err(PatError::TooDeep(place)),
-            Err(ReadError::OutOfMemory) => Err(PatError::OutOfMemory),
-        },
+}
+
+/// Returns the pattern that the codes spell under the flags of the call, as [`parse`] does, but reads more of them: lookarounds
+/// of one character, such as `(?=[ab])` or `(?<!\d|_)`, and a `$` without MULTILINE that ends the pattern inside a group or a
+/// branch of a choice. `dollar` says what becomes of such a `$`. All codes must belong to the universe: below 0x110000 for
+/// `Str`, and below 256 for `Bytes`.
+///
+/// # Errors
+/// Those of [`parse`]. [`PatError::Outside`] has the first feature that is refused here too.
+pub fn parse_beyond(
+    alloc: Global,
+    codes: &Codes,
+    flags: Flags,
+    universe: Universe,
+    dollar: Dollar,
+) -> Result<Pattern, PatError>
+    requires { IsText universe codes.now }
+    ensures { IsParsedBeyond dollar flags universe codes.now result }
+{
+    match reading(alloc, codes, flags, universe) {
+        Ok(whole) => outcome(alloc, Profile::Wide(dollar), whole, flags, universe),
+        Err(error) => Err(error),
     }
 }

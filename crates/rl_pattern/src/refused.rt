@@ -8,6 +8,7 @@ use crate::faults::{Fault, earlier, fronts_fault, node_fault};
 use crate::flags::Flags;
 use crate::inner::{Inner, without_anchors};
 use crate::names::name_fault;
+use crate::profile::{Profile, for_body};
 use crate::tree::Whole;
 use rl_lists::OutOfMemory;
 use std::alloc::Global;
@@ -21,18 +22,19 @@ pub(crate) enum Judged {
     Left(Inner),
 }
 
-/// Returns the judgement on a whole pattern under the flags of the call. `text` says whether the pattern is a `str`.
+/// Returns the judgement on a whole pattern under the flags of the call and the profile. `text` says whether the pattern is a `str`.
 ///
 /// # Errors
 /// [`OutOfMemory`] if there is no memory for the names of groups or for a branch.
 #[tactic(auto, using(crate::proofs::FirstFault::first_of_joined))]
 pub(crate) fn judge(
     alloc: Global,
+    profile: Profile,
     call: Flags,
     text: bool,
     whole: Whole,
 ) -> Result<Judged, OutOfMemory>
-    ensures { IfOk result (IsJudged call text (whole_of whole)) }
+    ensures { IfOk result (IsJudged profile call text (whole_of whole)) }
 {
     let fronts = fronts_fault(text, call, whole.fronts.as_slice());
     let Ok(names) = name_fault(alloc, &whole.body) else {
@@ -40,7 +42,7 @@ pub(crate) fn judge(
         return Err(OutOfMemory);
     };
     let left = without_anchors(alloc, whole)?;
-    let nodes = node_fault(text, &left.body);
+    let nodes = node_fault(for_body(profile, left.trailing), text, &left.body);
     match earlier(fronts, earlier(names, nodes)) {
         Some(fault) => {
             drop(left);

@@ -1,6 +1,11 @@
 //! Turning a syntax tree into a pattern. A pattern part is a node of the pattern's body with everything in it.
 
-ghost use Rattle.std.specs.Prelude.{◌≡◌, ℕ, ◌<◌, ◌≤◌, ◌++◌, List, map, IfOk};
+ghost use Rattle.std.specs.Prelude.{◌≡◌, ℕ, ◌<◌, ◌≤◌, ◌++◌, List, [], ◌∷◌, map, Some, IfOk, false};
+ghost use Rattle.rl_ranges.specs.Codes.{has};
+ghost use Rattle.rl_ranges.specs.Listed.{ranges_below};
+ghost use Rattle.rl_ranges.specs.Text.{code_count};
+ghost use Rattle.rl_syntax.specs.Guards.{is_line_feed};
+ghost use Rattle.rl_syntax.specs.declared.anchors.AnchorKind.TheVariants as anchor;
 ghost use Rattle.rl_syntax.specs.PatTree as s;
 ghost use Rattle.rl_syntax.specs.PatTree.{pat_of};
 ghost use Rattle.rl_syntax.specs.Counting.{branch_tree};
@@ -8,8 +13,10 @@ ghost use Rattle.rl_pattern.specs.internal.Views.{node_of, branch_of};
 ghost use Rattle.rl_pattern.specs.Tree as t;
 ghost use Rattle.rl_pattern.specs.Shape as p;
 
+use crate::faults::reads_look;
 use crate::flags::Flags;
-use crate::leaf_set::leaf_set;
+use crate::leaf_set::{character_set, leaf_set};
+use crate::profile::{Dollar, Profile, before_end, for_item};
 use crate::tree::{Assertion, Branch as SpelledBranch, Count, Greed, Kind, Leaf, SyntaxNode};
 use rl_lists::{Items, OutOfMemory};
 use rl_ranges::{CodeSet, Universe};
@@ -74,6 +81,127 @@ fn mark_pat(universe: Universe, span: Span, flags: Flags, mark: Assertion) -> Pa
     }
 }
 
+/// Returns the class of the line feed, with the span of the `$` that it comes from.
+fn line_feed(alloc: Global, span: Span) -> Result<Pat, OutOfMemory>
+    ensures { IfOk result (λ found. pat_of found ≡ s.class span is_line_feed) }
+{
+    let set = CodeSet::range(alloc, 10, 10)?;
+    Ok(Pat::Class { span, set })
+}
+
+/// Returns the optional line feed, which is lazy, that a `$` with this span allows.
+fn last_line(alloc: Global, span: Span) -> Result<Pat, OutOfMemory>
+    ensures { IfOk result (λ found. pat_of found ≡ s.repeat span span 0 (Some 1) false (s.class span is_line_feed)) }
+{
+    let body = line_feed(alloc, span)?;
+    let body = Box::new(alloc, body)?;
+    Ok(Pat::Repeat {
+        span,
+        mark: span,
+        min: 0,
+        max: Some(1),
+        greedy: false,
+        body,
+    })
+}
+
+/// Returns the items that a `$` with this span becomes: an optional line feed, which is lazy, and a `\Z`.
+fn dollar_items(alloc: Global, span: Span) -> Result<Pats, OutOfMemory>
+    ensures { IfOk result (λ ps. map pat_of ps ≡ s.repeat span span 0 (Some 1) false (s.class span is_line_feed) ∷ s.anchor span anchor.TextEnd false ∷ []) }
+{
+    let line = last_line(alloc, span)?;
+    let end = Pat::Anchor {
+        span,
+        kind: AnchorKind::TextEnd,
+        multiline: false,
+    };
+    let mut items: Pats = Items::new(alloc);
+    let Ok(()) = items.push(line) else {
+        drop(items);
+        drop(end);
+        return Err(OutOfMemory);
+    };
+    let Ok(()) = items.push(end) else {
+        drop(items);
+        return Err(OutOfMemory);
+    };
+    Ok(items)
+}
+
+/// Returns what becomes of a `$` without MULTILINE that ends the pattern.
+fn dollar_pat(alloc: Global, dollar: Dollar, span: Span) -> Result<Pat, OutOfMemory>
+    ensures { IfOk result (λ found. pat_of found ≡ p.dollar_shape dollar span) }
+{
+    match dollar {
+        Dollar::Refused => Ok(Pat::Anchor {
+            span,
+            kind: AnchorKind::Dollar,
+            multiline: false,
+        }),
+        Dollar::Dropped => Ok(Pat::Nothing { span }),
+        Dollar::LastLine => {
+            let items = dollar_items(alloc, span)?;
+            Ok(Pat::Seq { span, items })
+        }
+    }
+}
+
+/// Returns the anchor or word boundary of a mark under the profile. Only a `$` without MULTILINE depends on the profile.
+fn mark_pat_in(
+    alloc: Global,
+    profile: Profile,
+    universe: Universe,
+    span: Span,
+    flags: Flags,
+    mark: Assertion,
+) -> Result<Pat, OutOfMemory>
+    ensures { IfOk result (λ found. pat_of found ≡ p.mark_shape_in profile universe span flags mark) }
+{
+    match profile {
+        Profile::Narrow => Ok(mark_pat(universe, span, flags, mark)),
+        Profile::Wide(dollar) => match mark {
+            Assertion::Dollar => {
+                if flags.multiline {
+                    Ok(mark_pat(universe, span, flags, mark))
+                } else {
+                    dollar_pat(alloc, dollar, span)
+                }
+            }
+            Assertion::Caret | Assertion::TextStart | Assertion::TextEnd | Assertion::Boundary(_) =>
+                Ok(mark_pat(universe, span, flags, mark)),
+        },
+    }
+}
+
+/// Returns the lookaround of this kind that is read, with this body. A group of any other kind is no lookaround, and becomes
+/// [`Pat::Outside`].
+fn look_pat(
+    alloc: Global,
+    universe: Universe,
+    span: Span,
+    kind: &Kind,
+    body: &SyntaxNode,
+) -> Result<Pat, OutOfMemory>
+    ensures { IfOk result (λ found. pat_of found ≡ p.look_shape universe span kind.now (node_of body.now)) }
+{
+    match kind {
+        Kind::Lookaround { behind, negated } => {
+            let set = character_set(alloc, universe, body)?;
+            Ok(Pat::Look {
+                span,
+                behind: *behind,
+                negated: *negated,
+                set,
+            })
+        }
+        Kind::Capturing | Kind::Named(_) | Kind::Scoped(_, _) | Kind::Atomic | Kind::Conditional =>
+            Ok(Pat::Outside {
+                span,
+                what: Feature::Lookaround,
+            }),
+    }
+}
+
 /// Whether a quantifier is greedy. A lazy or possessive one isn't.
 fn is_greedy(greed: Greed) -> bool
     ensures { result ≡ p.is_greedy greed }
@@ -126,7 +254,7 @@ fn group_pat(alloc: Global, span: Span, kind: &Kind, body: Pat) -> Result<Pat, O
     match kind {
         Kind::Capturing | Kind::Named(_) => group_of(alloc, span, true, body),
         Kind::Scoped(_, _) => group_of(alloc, span, false, body),
-        Kind::Lookaround => {
+        Kind::Lookaround { .. } => {
             drop(body);
             Ok(Pat::Outside {
                 span,
@@ -157,7 +285,7 @@ fn branch_at(span: Span, body: Pat) -> Branch
     Branch { span, body }
 }
 
-/// Returns the pattern part of a node, over the universe. A lookaround, an atomic group or a conditional becomes
+/// Returns the pattern part of a node, over the universe and under the profile. A group that is refused becomes
 /// [`Pat::Outside`].
 ///
 /// # Errors
@@ -165,29 +293,35 @@ fn branch_at(span: Span, body: Pat) -> Branch
 #[cycle(shape)]
 pub(crate) fn node_pat(
     alloc: Global,
+    profile: Profile,
     universe: Universe,
     node: &SyntaxNode,
 ) -> Result<Pat, OutOfMemory>
-    ensures { IfOk result (λ found. pat_of found ≡ p.shape universe (node_of node.now)) }
+    ensures { IfOk result (λ found. pat_of found ≡ p.shape_in profile universe (node_of node.now)) }
 {
     match node {
         SyntaxNode::Leaf(span, flags, leaf) => leaf_pat(alloc, universe, *span, *flags, leaf),
-        SyntaxNode::Assertion(span, flags, mark) => Ok(mark_pat(universe, *span, *flags, *mark)),
+        SyntaxNode::Assertion(span, flags, mark) => {
+            mark_pat_in(alloc, profile, universe, *span, *flags, *mark)
+        }
         SyntaxNode::Repeat(span, mark, count, greed, body) => {
-            let body = node_pat(alloc, universe, body)?;
+            let body = node_pat(alloc, before_end(profile), universe, body)?;
             repeat_pat(alloc, *span, *mark, *count, *greed, body)
         }
         SyntaxNode::Group(span, kind, body) => {
-            let body = node_pat(alloc, universe, body)?;
+            if reads_look(profile, is_text(universe), kind, body) {
+                return look_pat(alloc, universe, *span, kind, body);
+            }
+            let body = node_pat(alloc, profile, universe, body)?;
             group_pat(alloc, *span, kind, body)
         }
         SyntaxNode::Nothing(span) => Ok(Pat::Nothing { span: *span }),
         SyntaxNode::Seq(span, items) => {
-            let items = item_pats(alloc, universe, items.as_slice())?;
+            let items = item_pats(alloc, profile, universe, items.as_slice())?;
             Ok(Pat::Seq { span: *span, items })
         }
         SyntaxNode::Choice(span, branches) => {
-            let branches = branch_pats(alloc, universe, branches.as_slice())?;
+            let branches = branch_pats(alloc, profile, universe, branches.as_slice())?;
             Ok(Pat::Choice {
                 span: *span,
                 branches,
@@ -196,14 +330,20 @@ pub(crate) fn node_pat(
     }
 }
 
-/// Returns the pattern parts of a sequence of nodes, in order.
+/// Returns the pattern parts of a sequence of nodes, in order. Only the last one may end the pattern.
 #[cycle(shape)]
-fn item_pats(alloc: Global, universe: Universe, nodes: &[SyntaxNode]) -> Result<Pats, OutOfMemory>
-    ensures { IfOk result (λ ps. map pat_of ps ≡ p.shapes universe (t.nodes (map node_of nodes.now))) }
+fn item_pats(
+    alloc: Global,
+    profile: Profile,
+    universe: Universe,
+    nodes: &[SyntaxNode],
+) -> Result<Pats, OutOfMemory>
+    ensures { IfOk result (λ ps. map pat_of ps ≡ p.shapes_in profile universe (t.nodes (map node_of nodes.now))) }
 {
     let mut items: Pats = Items::new(alloc);
-    for node in nodes {
-        let Ok(item) = node_pat(alloc, universe, node) else {
+    for (place, node) in nodes.iter().enumerate() {
+        let own = for_item(profile, place + 1 == nodes.len());
+        let Ok(item) = node_pat(alloc, own, universe, node) else {
             drop(items);
             return Err(OutOfMemory);
         };
@@ -219,14 +359,15 @@ fn item_pats(alloc: Global, universe: Universe, nodes: &[SyntaxNode]) -> Result<
 #[cycle(shape)]
 fn branch_pats(
     alloc: Global,
+    profile: Profile,
     universe: Universe,
     branches: &[SpelledBranch],
 ) -> Result<Branches, OutOfMemory>
-    ensures { IfOk result (λ bs. map branch_tree bs ≡ p.branch_shapes universe (t.branches (map branch_of branches.now))) }
+    ensures { IfOk result (λ bs. map branch_tree bs ≡ p.branch_shapes_in profile universe (t.branches (map branch_of branches.now))) }
 {
     let mut found: Branches = Items::new(alloc);
     for branch in branches {
-        let Ok(body) = node_pat(alloc, universe, &branch.body) else {
+        let Ok(body) = node_pat(alloc, profile, universe, &branch.body) else {
             drop(found);
             return Err(OutOfMemory);
         };

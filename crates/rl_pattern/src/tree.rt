@@ -86,8 +86,8 @@ pub(crate) enum Kind {
     Named(Items<u32>),
     /// A group that doesn't capture, with the flag letters before its `-` and those after it. Each may have none.
     Scoped(Flags, Flags),
-    /// A lookahead or lookbehind.
-    Lookaround,
+    /// A lookbehind if `behind` is set, otherwise a lookahead. If `negated` is set, its body must not match there.
+    Lookaround { behind: bool, negated: bool },
     /// `(?>..)`.
     Atomic,
     /// `(?(id)..)`.

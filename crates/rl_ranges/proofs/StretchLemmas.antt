@@ -1,5 +1,5 @@
 -- The value of a code in a list of stretches.
-use Rattle.std.proofs.Common.{List, [], ap, arith, inl, inr, le_of_suc-le-suc, length, nat_le, not-suc-le-zero, refl, suc, suc-le-suc, zero, zero-lt-suc, ℕ, ◌++◌, ◌+◌, ◌-◌, ◌<◌, ◌∙◌, ◌∷◌, ◌≡◌, ◌≤◌}
+use Rattle.std.proofs.Common.{List, [], ap, arith, inl, inr, le_of_suc-le-suc, length, nat_le, not-suc-le-zero, refl, suc, suc-le-suc, zero, zero-lt-suc, ℕ, ◌++◌, ◌-◌, ◌<◌, ◌∙◌, ◌∷◌, ◌≡◌, ◌≤◌}
 use Rattle.std.proofs.lemmas.Bool.{cases_lt, le-leb, lt-leb}
 use Rattle.std.proofs.lemmas.List.{get_or_append_left, get_or_at, length_push}
 use Rattle.std.specs.Prelude.{if◌then◌else◌}

@@ -1,6 +1,7 @@
 pub mod Text
 pub mod Codes
 pub mod Listing
+pub mod Listed
 pub mod Building
 pub mod Named
 pub mod Case

@@ -4,6 +4,7 @@
 ghost use Rattle.std.specs.Prelude.{◌≡◌, ℕ, ◌≤◌, ◌<◌, ◌&&◌, ◌||◌, not, true, false, nat_lt, List, [], IfOk, IfSome, MatchOption, IsTrue};
 ghost use Rattle.rl_ranges.specs.Text.{code_count};
 ghost use Rattle.rl_ranges.specs.Codes.{has, is_between, Above, IsInside};
+ghost use Rattle.rl_ranges.specs.Listed.{ranges_below};
 ghost use Rattle.rl_ranges.specs.Named.{is_named, goes_by_ascii};
 ghost use Rattle.rl_ranges.specs.Case.{IsCaseClosed};
 
@@ -195,6 +196,15 @@ impl CodeSet {
     {
         let (first, _) = self.as_ranges().first()?;
         Some(*first)
+    }
+
+    /// Does nothing: its contract states that the list is determined by the codes that it holds. Its ranges are in ascending
+    /// order and don't touch, and if the set lies in a universe, they are the ranges of its codes.
+    pub fn ranges_are_known(&self)
+        ensures sorted { Above 0 self.now }
+        ensures listed { (u : Universe) → IsInside u self.now → self.now ≡ ranges_below (code_count u) (has self.now) }
+    {
+        let _ = &self.ranges;
     }
 
     /// Returns the set's ranges, in ascending order.

@@ -10,7 +10,8 @@
 //!
 //! Each operation is the operation on sets, code point by code point. The named classes and the rules of case follow the
 //! definitions, by ASCII or by Unicode. The letters are exactly the classes, numbered by their least code point, and
-//! [`LettersError::TooMany`] is returned only if there are more letters than the limit.
+//! [`LettersError::TooMany`] is returned only if there are more letters than the limit. The list of ranges of a set is
+//! determined by its codes: see [`laws::ranges_stand_for_sets`].
 //!
 //! # Example
 //!
@@ -22,11 +23,13 @@
 //! letters.sample(2); // 98
 //! ```
 //!
-//! Read `specs/Text.antt` and `specs/Codes.antt` first, then `specs/Letters.antt`, `specs/Named.antt` and `specs/Case.antt`.
+//! Read `specs/Text.antt` and `specs/Codes.antt` first, then `specs/Letters.antt`, `specs/Named.antt` and `specs/Case.antt`;
+//! for the law `specs/Listed.antt`.
 #![tactic(auto)]
 
 mod case;
 pub mod code_set;
+pub mod laws;
 pub mod letters;
 pub mod named;
 mod range_list;

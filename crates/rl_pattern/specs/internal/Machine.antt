@@ -173,31 +173,31 @@ quest_next colon c = ends (begins_group (scoped no_flags no_flags))
 quest_next minus c = goes (letters_dash no_flags)
 quest_next letter_p c = goes after_p
 quest_next sharps c = ends begins_comment
-quest_next looks c = ends (begins_group lookaround)
+quest_next looks c = ends (begins_group (lookaround false (is "!" c)))
 quest_next less c = goes after_less
 quest_next greater c = ends (begins_group atomic)
 quest_next condition c = goes asks
 quest_next no_head c = stops
 
 -- The answer of a group's head to the code after `(?<`, given its class. Only `=` and `!` may follow: they begin a lookbehind.
-abbrev pub after_less_next : GroupPrefix → Answer InHead GroupStart
-after_less_next looks = ends (begins_group lookaround)
-after_less_next letter = stops
-after_less_next colon = stops
-after_less_next minus = stops
-after_less_next letter_p = stops
-after_less_next sharps = stops
-after_less_next less = stops
-after_less_next greater = stops
-after_less_next condition = stops
-after_less_next no_head = stops
+abbrev pub after_less_next : GroupPrefix → ℕ → Answer InHead GroupStart
+after_less_next looks c = ends (begins_group (lookaround true (is "!" c)))
+after_less_next letter c = stops
+after_less_next colon c = stops
+after_less_next minus c = stops
+after_less_next letter_p c = stops
+after_less_next sharps c = stops
+after_less_next less c = stops
+after_less_next greater c = stops
+after_less_next condition c = stops
+after_less_next no_head c = stops
 
 -- The answer of a group's head in this state to the code. `text` says whether the pattern is a `str`.
 abbrev pub head_step : Bool → InHead → ℕ → Answer InHead GroupStart
 head_step text paren c = if is "?" c then goes quest else stops
 head_step text quest c = quest_next (headed c) c
 head_step text after_p c = if is "<" c then goes group_name else (if is "=" c then goes reference_name else stops)
-head_step text after_less c = after_less_next (headed c)
+head_step text after_less c = after_less_next (headed c) c
 head_step text group_name c = if begins_name text c then goes (group_name_goes (c ∷ [])) else stops
 head_step text (group_name_goes n) c =
     if is ">" c then ends (begins_group (named n)) else (if goes_in_name text c then goes (group_name_goes (n ++ c ∷ [])) else stops)
