@@ -15,12 +15,14 @@ ghost use Rattle.rl_machine.specs.declared.steps.Counted.{Counted};
 ghost use Rattle.rl_asked.specs.Questions.{AreTexts};
 ghost use Rattle.rl_asked.specs.Values.{texts_of};
 ghost use Rattle.rl_ask.specs.Costs.{IsCost, IsCostOf, IsTreeCost, family_named};
+ghost use Rattle.rl_ask.specs.Grammars.{grammar_in};
 ghost use Rattle.rl_ask.specs.Patterns.{ReadThen};
 ghost use Rattle.rl_ask.specs.declared.answer.Answer.TheVariants as answer;
 
 use crate::answer::{Answer, Limit, Which};
 use crate::codes::codes_of;
 use crate::family::{TextError, text_for};
+use crate::grammar::grammar_in;
 use crate::limits::MOST_TEXT_CODES;
 use crate::patterns::{PatternRead, read_pattern};
 use rl_asked::Terms;
@@ -93,9 +95,9 @@ fn read_answer(
     text: &Codes,
 ) -> Result<Answer, OutOfMemory>
     requires text { IsText terms.universe text.now }
-    ensures { IfOk result (ReadThen terms pattern.now (IsCost mode text.now)) }
+    ensures { IfOk result (ReadThen (grammar_in mode) terms pattern.now (IsCost mode text.now)) }
 {
-    match read_pattern(alloc, pattern, terms)? {
+    match read_pattern(alloc, pattern, terms, grammar_in(mode))? {
         PatternRead::Refused(fault) => Ok(Answer::Refused {
             which: Which::Only,
             fault,

@@ -43,6 +43,7 @@
 
 pub mod answer;
 mod answering;
+pub mod beyond;
 mod class;
 mod codes;
 mod compare;
@@ -50,6 +51,7 @@ mod cost;
 mod document;
 mod family;
 mod found;
+pub mod grammar;
 mod limits;
 mod members;
 mod messages;
@@ -66,6 +68,8 @@ mod ways;
 
 pub use answer::{Answer, Difference, Fault, Limit, Which};
 pub use answering::answer_to;
+pub use beyond::Beyond;
+pub use grammar::Grammar;
 pub use limits::{MOST_LINE_BYTES, MOST_TEXT_CODES, limits_are};
 pub use run::ask_main;
 pub use version::VERSION;
