@@ -4,7 +4,7 @@ use Rattle.rl_syntax.specs.Tree.{Tree}
 use Rattle.rl_syntax.specs.Tree as Plain
 use Rattle.rl_syntax.specs.Lowering as Lowering
 use Rattle.rl_syntax.specs.Lowering.{lowered}
-use Rattle.rl_syntax.specs.PatTree.{PatTree, PatTrees, BranchTrees, nothing, class, seq, choice, repeat, group, anchor, boundary, outside, no_items, item, no_branches, branch}
+use Rattle.rl_syntax.specs.PatTree.{PatTree, PatTrees, BranchTrees, nothing, class, seq, choice, repeat, group, anchor, boundary, look, outside, no_items, item, no_branches, branch}
 use Rattle.rl_marks.specs.Marked.{Marked, plain}
 use Rattle.rl_marks.specs.Marking.{in_turn, in_rounds, one_of, option_of, options, tail_of, times, groups_in, marked, items_marked, branches_marked}
 use Rattle.rl_marks.proofs.Following.{map-join}
@@ -57,6 +57,7 @@ mutual
   plain-marked (group span false p) n = plain-marked p n
   plain-marked (anchor span kind multiline) n = refl
   plain-marked (boundary span negated ascii) n = refl
+  plain-marked (look span behind negated ranges) n = refl
   plain-marked (outside span what) n = refl
 
   plain-items : (ps : PatTrees) (n : ℕ) → map plain (items_marked ps n) ≡ Lowering.items_lowered ps

@@ -5,7 +5,7 @@ use Rattle.rl_syntax.specs.declared.limits.TheConstants.{MOST_NODES}
 use Rattle.rl_syntax.specs.Tree.{size, IsOver}
 use Rattle.rl_syntax.specs.Lowering.{lowered}
 use Rattle.rl_syntax.specs.IsPattern.{IsPattern}
-use Rattle.rl_syntax.specs.PatTree.{PatTree, PatTrees, BranchTrees, nothing, class, seq, choice, repeat, group, anchor, boundary, outside, no_items, item, no_branches, branch}
+use Rattle.rl_syntax.specs.PatTree.{PatTree, PatTrees, BranchTrees, nothing, class, seq, choice, repeat, group, anchor, boundary, look, outside, no_items, item, no_branches, branch}
 use Rattle.rl_syntax.specs.declared.anchors.Trail.TheVariants.{None as no_trail}
 use Rattle.rl_syntax.specs.declared.re.Mode.TheVariants.{Fullmatch}
 use Rattle.rl_syntax.proofs.BodyOver.{tree-over}
@@ -109,6 +109,7 @@ mutual
   marked-numbered (group span false p) n lt = marked-numbered p n lt
   marked-numbered (anchor span kind multiline) n lt = refl
   marked-numbered (boundary span negated ascii) n lt = refl
+  marked-numbered (look span behind negated ranges) n lt = refl
   marked-numbered (outside span what) n lt = refl
 
   items-numbered : (ps : PatTrees) (n : ℕ) → 0 < n → all_true (items_marked ps n)

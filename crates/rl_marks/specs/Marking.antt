@@ -3,10 +3,10 @@
 -- the one that the lowering of `rl_syntax` gives, which turns the body of a pattern into a tree of operators. A part of a
 -- pattern is a node of its body with everything in it.
 use Rattle.std.specs.Prelude.{ℕ, zero, suc, ◌+◌, ◌-◌, Bool, true, false, List, [], ◌∷◌, ◌++◌, Option, None, Some, replicate}
-use Rattle.rl_syntax.specs.declared.anchors.Guard.TheVariants.{Start}
+use Rattle.rl_syntax.specs.declared.anchors.Guard.TheVariants.{Start, Look}
 use Rattle.rl_syntax.specs.declared.pattern.Pattern.{Pattern}
 use Rattle.rl_syntax.specs.Pattern.{body_of, is_anchored}
-use Rattle.rl_syntax.specs.PatTree.{PatTree, PatTrees, BranchTrees, nothing, class, seq, choice, repeat, group, anchor, boundary, outside, no_items, item, no_branches, branch}
+use Rattle.rl_syntax.specs.PatTree.{PatTree, PatTrees, BranchTrees, nothing, class, seq, choice, repeat, group, anchor, boundary, look, outside, no_items, item, no_branches, branch}
 use Rattle.rl_syntax.specs.Lowering.{guard_of, boundary_guard}
 use Rattle.rl_marks.specs.Marked.{Marked, empty, one, guard, both, either, many, further, mark}
 
@@ -61,6 +61,7 @@ abbrev mutual
   groups_in (group span false p) = groups_in p
   groups_in (anchor span kind multiline) = 0
   groups_in (boundary span negated ascii) = 0
+  groups_in (look span behind negated ranges) = 0
   groups_in (outside span what) = 0
 
   -- The number of capturing groups in a sequence of items.
@@ -86,6 +87,7 @@ abbrev mutual
   marked (group span false p) n = marked p n
   marked (anchor span kind multiline) n = guard (guard_of kind multiline)
   marked (boundary span negated ascii) n = guard (boundary_guard negated ascii)
+  marked (look span behind negated ranges) n = guard (Look behind negated ranges)
   marked (outside span what) n = empty
 
   -- The trees of the items of a sequence, in order. Their groups are numbered from `n` on, through all items.

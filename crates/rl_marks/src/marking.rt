@@ -2,6 +2,7 @@
 
 ghost use Rattle.std.specs.Prelude.{◌≡◌, ◌≢◌, ◌+◌, ◌<◌, ◌≤◌, ◌∷◌, [], map, IfOk, IfErr};
 ghost use Rattle.rl_syntax.specs.PatTree.{pat_of, items_of, branches_of};
+ghost use Rattle.rl_syntax.specs.declared.anchors.Guard.TheVariants.{Look};
 ghost use Rattle.rl_syntax.specs.Lowering.{guard_of};
 ghost use Rattle.rl_syntax.specs.Lowering.{boundary_guard as guard_of_boundary};
 ghost use Rattle.rl_syntax.specs.Counting.{branch_tree};
@@ -14,7 +15,7 @@ use crate::error::MarkError;
 use crate::limits::MOST_GROUPS;
 use crate::tree::MarkTree;
 use rl_lists::{Items, OutOfMemory};
-use rl_syntax::{AnchorKind, Branch, Guard, Pat};
+use rl_syntax::{AnchorKind, Branch, CodeSet, Guard, Pat};
 use std::alloc::Global;
 
 /// The tree with groups of a part of a pattern.
@@ -96,6 +97,18 @@ pub(crate) fn mark_part(alloc: Global, part: &Pat, number: u32) -> Result<Part, 
             tree: MarkTree::Guard(boundary_guard(*negated, *ascii)),
             next: number,
         }),
+        Pat::Look {
+            behind,
+            negated,
+            set,
+            ..
+        } => {
+            let guard = look_guard(*behind, *negated, set)?;
+            Ok(Part {
+                tree: MarkTree::Guard(guard),
+                next: number,
+            })
+        }
     }
 }
 
@@ -292,4 +305,16 @@ fn boundary_guard(negated: bool, ascii: bool) -> Guard
     } else {
         Guard::Word(ascii)
     }
+}
+
+/// Returns the guard of a lookaround of one character of the set. The flags say whether it looks behind, and whether it is
+/// negated.
+fn look_guard(behind: bool, negated: bool, set: &CodeSet) -> Result<Guard, OutOfMemory>
+    ensures { IfOk result (λ g. g ≡ Look behind negated set.now) }
+{
+    Ok(Guard::Look {
+        behind,
+        negated,
+        set: set.copy()?,
+    })
 }

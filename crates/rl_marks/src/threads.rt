@@ -3,8 +3,10 @@
 //! pair to pair. Within a pair, the positions in what is known of the groups are names: in each step they become one greater,
 //! and the current position gets the name 0.
 
+ghost use Rattle.std.specs.Prelude.{◌≡◌, IfOk};
+
 use crate::spans::GroupSpan;
-use rl_lists::Items;
+use rl_lists::{Items, OutOfMemory};
 use rl_syntax::Guard;
 
 /// The positions from which matches are asked for.
@@ -28,7 +30,7 @@ pub struct Caps {
 }
 
 /// What an item of a tree does at a position before its test of a place, or before the end of the tree.
-#[derive(Clone, Copy)]
+#[derive(Drop)]
 pub enum Act {
     /// Tests the position.
     Check(Guard),
@@ -36,6 +38,22 @@ pub enum Act {
     OpenGroup,
     /// Closes the innermost open group, which has this number.
     CloseGroup(u32),
+}
+
+impl Act {
+    /// Returns a copy of the act.
+    ///
+    /// # Errors
+    /// [`OutOfMemory`] if there are too many copies of the set of the act's guard.
+    pub fn copy(&self) -> Result<Act, OutOfMemory>
+        ensures { IfOk result (λ a. a ≡ self.now) }
+    {
+        match self {
+            Act::Check(guard) => Ok(Act::Check(guard.copy()?)),
+            Act::OpenGroup => Ok(Act::OpenGroup),
+            Act::CloseGroup(number) => Ok(Act::CloseGroup(*number)),
+        }
+    }
 }
 
 /// What a matcher tries: acts in order, and then the test of a place or the end of the tree.

@@ -135,7 +135,7 @@ impl MarkTree {
         match self {
             MarkTree::Empty => Ok(MarkTree::Empty),
             MarkTree::One(set) => Ok(MarkTree::One(set.copy()?)),
-            MarkTree::Guard(guard) => Ok(MarkTree::Guard(*guard)),
+            MarkTree::Guard(guard) => Ok(MarkTree::Guard(guard.copy()?)),
             MarkTree::Both(first, second) => {
                 let first = first.copy(alloc)?;
                 let second = second.copy(alloc)?;

@@ -4,7 +4,7 @@ use Rattle.std.specs.List.{All}
 use Rattle.rl_ranges.specs.declared.universe.Universe.{Universe}
 use Rattle.rl_ranges.specs.Codes.{has, IsInside}
 use Rattle.rl_syntax.specs.IsPattern.{IsPart, AreParts, AreBranches}
-use Rattle.rl_syntax.specs.PatTree.{PatTree, PatTrees, BranchTrees, nothing, class, seq, choice, repeat, group, anchor, boundary, outside, no_items, item, no_branches, branch}
+use Rattle.rl_syntax.specs.PatTree.{PatTree, PatTrees, BranchTrees, nothing, class, seq, choice, repeat, group, anchor, boundary, look, outside, no_items, item, no_branches, branch}
 use Rattle.rl_syntax.specs.Tree.{AllLieIn}
 use Rattle.rl_parts.specs.Sets.{sets_in, sets_in_items, sets_in_branches}
 
@@ -22,6 +22,7 @@ mutual
   part-inside u (group span captures p) h = part-inside u p h
   part-inside u (anchor span kind multiline) h = tt
   part-inside u (boundary span negated ascii) h = tt
+  part-inside u (look span behind negated ranges) h = (h, tt)
   part-inside u (outside span what) h = absurd h
 
   items-inside : (u : Universe) (ps : PatTrees) → AreParts u ps → AllLieIn u (sets_in_items ps)

@@ -7,9 +7,10 @@ use Rattle.serde_json.specs.Data.{null, string}
 use Rattle.serde_json.specs.View.{items_of}
 use Rattle.serde_json.specs.Written.{has_float, items_have_float}
 use Rattle.rl_json.proofs.NoFloats as json
+use Rattle.rl_ranges.specs.Codes.{has}
 use Rattle.rl_syntax.specs.declared.pattern.Pattern.{Pattern}
 use Rattle.rl_syntax.specs.Pattern.{body_of}
-use Rattle.rl_syntax.specs.PatTree.{PatTree, PatTrees, BranchTrees, nothing, class, seq, choice, repeat, group, anchor, boundary, outside, no_items, item, no_branches, branch}
+use Rattle.rl_syntax.specs.PatTree.{PatTree, PatTrees, BranchTrees, nothing, class, seq, choice, repeat, group, anchor, boundary, look, outside, no_items, item, no_branches, branch}
 use Rattle.rl_marks.specs.Marking.{groups_in}
 use Rattle.rl_parts.specs.Members.{whole, number_data}
 use Rattle.rl_parts.specs.Nodes.{letters_from, node_data, items_data, branches_data}
@@ -37,6 +38,7 @@ mutual
   node-plain samples (group span false p) n = or_from _ _ (node-plain samples p n) refl
   node-plain samples (anchor span kind multiline) n = refl
   node-plain samples (boundary span negated ascii) n = refl
+  node-plain samples (look span behind negated ranges) n = or_from _ _ (json.items-plain whole (letters_from 0 (has ranges) samples) (λ k. refl)) refl
   node-plain samples (outside span what) n = refl
 
   items-plain : (samples : List ℕ) (ps : PatTrees) (n : ℕ) → items_have_float (items_of (items_data samples ps n)) ≡ false

@@ -4,10 +4,11 @@
 -- of their bytes.
 use Rattle.std.specs.Prelude.{ℕ, suc, ◌+◌, Bool, true, false, List, [], ◌∷◌, map, Option, None, Some, is_some, codes, if◌then◌else◌}
 use Rattle.serde_json.specs.Data.{Data, Members, boolean, string, object, no_members, put}
+use Rattle.rl_ranges.specs.Codes.{has}
 use Rattle.rl_syntax.specs.declared.anchors.AnchorKind.{AnchorKind}
 use Rattle.rl_syntax.specs.declared.anchors.AnchorKind.TheVariants.{Caret, TextStart, Dollar, TextEnd}
 use Rattle.rl_syntax.specs.declared.span.Span.{Span}
-use Rattle.rl_syntax.specs.PatTree.{PatTree, PatTrees, BranchTrees, nothing, class, seq, choice, repeat, group, anchor, boundary, outside, no_items, item, no_branches, branch}
+use Rattle.rl_syntax.specs.PatTree.{PatTree, PatTrees, BranchTrees, nothing, class, seq, choice, repeat, group, anchor, boundary, look, outside, no_items, item, no_branches, branch}
 use Rattle.rl_marks.specs.Marking.{groups_in}
 use Rattle.rl_parts.specs.Members.{whole, list_data, number_data, span_data}
 
@@ -60,6 +61,13 @@ abbrev pub boundary_members : Span → Bool → Bool → Members
 boundary_members span negated ascii =
     put (codes "ascii") (boolean ascii) (put (codes "negated") (boolean negated) (part_members (codes "boundary") span))
 
+-- The members of a lookaround of one character: whether it looks behind, whether it is negated, and the numbers of the letters
+-- of its set, given the samples of all letters.
+abbrev pub look_members : List ℕ → Span → Bool → Bool → (ℕ → Bool) → Members
+look_members samples span behind negated set =
+    put (codes "letters") (list_data (map whole (letters_from 0 set samples)))
+    (put (codes "negated") (boolean negated) (put (codes "behind") (boolean behind) (part_members (codes "look") span)))
+
 abbrev mutual
   -- The object of a part, given the samples of the letters. Its capturing groups are numbered from `n` on, in the order of
   -- their opening parentheses. A feature that isn't judged is of the kind `outside`, which no part of a `Pattern` is.
@@ -75,6 +83,7 @@ abbrev mutual
   node_data samples (group span false p) n = object (group_members span None (node_data samples p n))
   node_data samples (anchor span kind multiline) n = object (anchor_members span kind multiline)
   node_data samples (boundary span negated ascii) n = object (boundary_members span negated ascii)
+  node_data samples (look span behind negated ranges) n = object (look_members samples span behind negated (has ranges))
   node_data samples (outside span what) n = object (part_members (codes "outside") span)
 
   -- The objects of the items of a sequence, in order. Their groups are numbered from `n` on, through all items.

@@ -3,15 +3,16 @@
 -- all. A letter's sample is one of its codes: `specs/Letters.antt` of `rl_ranges` says which one, and how letters are
 -- numbered, from 0.
 use Rattle.std.specs.Prelude.{ℕ, Bool, List, [], ◌∷◌, ◌++◌}
+use Rattle.rl_ranges.specs.Codes.{has}
 use Rattle.rl_ranges.specs.Letters.{LetterTable, IsLetters}
 use Rattle.rl_ranges.specs.Text.{code_count}
 use Rattle.rl_syntax.specs.declared.pattern.Pattern.{Pattern}
 use Rattle.rl_syntax.specs.Pattern.{body_of, universe_of}
-use Rattle.rl_syntax.specs.PatTree.{PatTree, PatTrees, BranchTrees, nothing, class, seq, choice, repeat, group, anchor, boundary, outside, no_items, item, no_branches, branch}
+use Rattle.rl_syntax.specs.PatTree.{PatTree, PatTrees, BranchTrees, nothing, class, seq, choice, repeat, group, anchor, boundary, look, outside, no_items, item, no_branches, branch}
 
 abbrev mutual
-  -- The sets of a part of a pattern, from left to right. Equal sets are repeated. The sets of word characters, which word
-  -- boundaries use, aren't among them.
+  -- The sets of a part of a pattern, from left to right: those of classes and of lookarounds. Equal sets are repeated. The sets
+  -- of word characters, which word boundaries use, aren't among them.
   pub sets_in : PatTree → List (ℕ → Bool)
   sets_in (nothing span) = []
   sets_in (class span set) = set ∷ []
@@ -21,6 +22,7 @@ abbrev mutual
   sets_in (group span captures p) = sets_in p
   sets_in (anchor span kind multiline) = []
   sets_in (boundary span negated ascii) = []
+  sets_in (look span behind negated ranges) = has ranges ∷ []
   sets_in (outside span what) = []
 
   -- The sets of the items of a sequence, in order.

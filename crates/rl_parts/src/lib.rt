@@ -1,9 +1,9 @@
 //! The parts of a pattern as a value of JSON.
 //!
 //! [`tree_reply`] returns an object with the tree of a [`Pattern`](rl_syntax::Pattern): each part with its kind and its span,
-//! repeats with their bounds and quantifiers, groups with their numbers, and sets by the letters that they hold. A letter is a
-//! class of codes that no set of the pattern tells apart; the object has a sample of each. [`members`] has functions that build
-//! objects of JSON, for other replies too.
+//! repeats with their bounds and quantifiers, groups with their numbers, and sets, also those of lookarounds, by the letters
+//! that they hold. A letter is a class of codes that no set of the pattern tells apart; the object has a sample of each.
+//! [`members`] has functions that build objects of JSON, for other replies too.
 //!
 //! # What is proved
 //!

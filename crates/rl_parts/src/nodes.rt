@@ -170,6 +170,26 @@ fn boundary_value(
     Ok(Value::Object(members))
 }
 
+/// Returns the object of a lookaround of one character of the set.
+fn look_value(
+    alloc: Global,
+    letters: &Letters,
+    span: Span,
+    behind: bool,
+    negated: bool,
+    set: &CodeSet,
+) -> Result<Value, OutOfMemory>
+    ensures { IfOk result (λ v. view v
+        ≡ object (spec.look_members letters.now.samples span behind negated (has set.now))) }
+{
+    let numbers = set_letters(alloc, letters, set)?;
+    let mut members = part_members(alloc, "look", span)?;
+    put_flag(alloc, &mut members, "behind", behind)?;
+    put_flag(alloc, &mut members, "negated", negated)?;
+    put_value(alloc, &mut members, "letters", numbers)?;
+    Ok(Value::Object(members))
+}
+
 /// Returns the object of a part of a pattern, whose first group gets this number, and the number that the group after it gets.
 ///
 /// # Errors
@@ -260,6 +280,18 @@ pub(crate) fn node_of(
             ascii,
         } => {
             let value = boundary_value(alloc, *span, *negated, *ascii)?;
+            Ok(Node {
+                value,
+                next: number,
+            })
+        }
+        Pat::Look {
+            span,
+            behind,
+            negated,
+            set,
+        } => {
+            let value = look_value(alloc, letters, *span, *behind, *negated, set)?;
             Ok(Node {
                 value,
                 next: number,

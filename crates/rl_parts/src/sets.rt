@@ -24,7 +24,7 @@ fn add_sets(part: &Pat, sets: &mut Vec<CodeSet>) -> Result<(), OutOfMemory>
         (map has sets.new.items ≡ map has sets.old.items ++ sets_in (pat_of part.now)) }
 {
     match part {
-        Pat::Class { set, .. } => {
+        Pat::Class { set, .. } | Pat::Look { set, .. } => {
             sets.push(set.copy()?)?;
             Ok(())
         }

@@ -3,7 +3,7 @@
 use Rattle.std.proofs.Common.{◌≡◌, ℕ, zero, suc, ◌-◌, ◌<◌, ◌≤◌, ◌⊎◌, inl, inr, Bool, true, false, ◌||◌, List, [], ◌∷◌, ◌++◌, length, slice_get, nat_lt, if◌then◌else◌, refl, sym, ap, ◌∙◌, true≢false, lt-ltb, le-ltb, arith}
 use Rattle.std.proofs.lemmas.Bool.{cases_lt}
 use Rattle.rl_syntax.specs.declared.anchors.Guard.{Guard}
-use Rattle.rl_syntax.specs.declared.anchors.Guard.TheVariants.{Start, LineStart, LineEnd, TextEnd, Word, NotWord}
+use Rattle.rl_syntax.specs.declared.anchors.Guard.TheVariants.{Start, LineStart, LineEnd, TextEnd, Word, NotWord, Look}
 use Rattle.rl_syntax.specs.Guards.{is_in, holds, holds_at}
 use Rattle.rl_syntax.specs.Tree.{Tree, empty, one, guard, both, either, many}
 use Rattle.rl_syntax.specs.Run.{Step, test, end, onward, one_more, rounds, run}
@@ -80,6 +80,8 @@ guard-later LineEnd c w zero (inl h) = refl
 guard-later TextEnd c w zero (inl h) = refl
 guard-later (Word ascii) c w zero (inl h) = absurd (true≢false h)
 guard-later (NotWord ascii) c w zero (inl h) = absurd (true≢false h)
+guard-later (Look true negated ranges) c w zero (inl h) = absurd (true≢false h)
+guard-later (Look false negated ranges) c w zero (inl h) = refl
 
 neither : (x y : Bool) → (x || y) ≡ false → (x ≡ false) × (y ≡ false)
 neither true y h = absurd (true≢false h)

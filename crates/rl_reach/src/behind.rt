@@ -6,13 +6,13 @@ ghost use Rattle.rl_reach.specs.Behind.{guard_looks_behind, looks_behind};
 
 use rl_syntax::{Guard, Re};
 
-/// Returns whether some guard of the tree looks behind: `\A`, `^`, `\b` or `\B`.
+/// Returns whether some guard of the tree looks behind: `\A`, `^`, `\b`, `\B`, or a lookbehind.
 pub fn looks_behind(tree: &Re) -> bool
     ensures { result ≡ looks_behind (tree_of tree.now) }
 {
     match tree {
         Re::Empty | Re::One(_) => false,
-        Re::Guard(guard) => guard_looks_behind(*guard),
+        Re::Guard(guard) => guard_looks_behind(guard),
         Re::Both(first, second) | Re::Either(first, second) => {
             looks_behind(first) || looks_behind(second)
         }
@@ -21,11 +21,12 @@ pub fn looks_behind(tree: &Re) -> bool
 }
 
 /// Returns whether the guard looks behind.
-fn guard_looks_behind(guard: Guard) -> bool
-    ensures { result ≡ guard_looks_behind guard }
+fn guard_looks_behind(guard: &Guard) -> bool
+    ensures { result ≡ guard_looks_behind guard.now }
 {
     match guard {
         Guard::Start | Guard::LineStart | Guard::Word(_) | Guard::NotWord(_) => true,
         Guard::LineEnd | Guard::TextEnd => false,
+        Guard::Look { behind, .. } => *behind,
     }
 }

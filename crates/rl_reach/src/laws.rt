@@ -3,8 +3,8 @@
 //! A tree is a lowered pattern. `wrapped` makes of a pattern's tree that of a mode. In the mode `match` it adds what a trailing
 //! anchor allows after the match. In the mode `search` it also puts any characters before the match, as few as possible, unless
 //! there is a leading anchor. The cost of a text is one more than the number of steps that a backtracking matcher takes up to
-//! the first hit, or in all if there is none. A guard is an anchor or a word boundary within the pattern. It looks behind if it
-//! needs the character before its position.
+//! the first hit, or in all if there is none. A guard is an anchor, a word boundary or a lookaround of one character
+//! within the pattern. It looks behind if it needs the character before its position.
 
 ghost use Rattle.std.specs.Prelude.{◌≡◌, ℕ, suc, ◌+◌, ◌*◌, ◌^◌, ◌<◌, ◌≤◌, max, Bool, true, false, List, length};
 ghost use Rattle.rl_ranges.specs.Text.{IsText};

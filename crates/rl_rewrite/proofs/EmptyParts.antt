@@ -96,6 +96,7 @@ module _ (drop : Span → Bool) where
     left_empty (p.group s c q) = left_empty q
     left_empty (p.anchor s k m) = refl
     left_empty (p.boundary s n a) = refl
+    left_empty (p.look s b i r) = refl
     left_empty (p.outside s f) = refl
 
     items_empty : (qs : p.PatTrees) → all_empty (items_lowered (remaining_items drop no_span qs)) ≡ items_span_empty drop qs

@@ -3,7 +3,7 @@ use Rattle.std.proofs.Common.{◌≡◌, ℕ, Bool, true, false, not, ◌||◌, 
 use Rattle.rl_pattern.specs.Suggested.{among, text_of, text_if}
 use Rattle.rl_pattern.specs.Thinned.{kept_from}
 use Rattle.rl_syntax.specs.declared.span.Span.{Span}
-use Rattle.rl_syntax.specs.PatTree.{PatTree, PatTrees, BranchTrees, nothing, class, seq, choice, repeat, group, anchor, boundary, outside, no_items, item, no_branches, branch}
+use Rattle.rl_syntax.specs.PatTree.{PatTree, PatTrees, BranchTrees, nothing, class, seq, choice, repeat, group, anchor, boundary, look, outside, no_items, item, no_branches, branch}
 use Rattle.rl_pattern.specs.Cut.{lies_in, in_dropped, gone, gone_items, gone_branches}
 use Rattle.rl_rewrite.specs.declared.spelling.Hole.{Hole}
 use Rattle.rl_rewrite.specs.internal.Holes.{in_holes, branch_hole, mark_hole, holes_in, items_holes, branches_holes}
@@ -35,6 +35,7 @@ module _ (drop out : Span → Bool) where
     hole_gone (group s c p) t = hole_gone p t
     hole_gone (anchor s k m) t = refl
     hole_gone (boundary s n a) t = refl
+    hole_gone (look s b i r) t = refl
     hole_gone (outside s f) t = refl
 
     items_gone : (ps : PatTrees) (t : ℕ) → in_holes (items_holes drop out ps) t ≡ gone_items drop out ps t

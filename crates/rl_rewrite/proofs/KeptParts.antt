@@ -6,6 +6,7 @@ use mathlib.Core.Path.{fun_ext}
 use Rattle.rl_syntax.specs.declared.span.Span.{Span}
 use Rattle.rl_syntax.specs.Lowering.{one_of, lowered, items_lowered, branches_lowered, guard_of, boundary_guard}
 use Rattle.rl_syntax.specs.PatTree as p
+use Rattle.rl_syntax.specs.declared.anchors.Guard.TheVariants.{Look}
 use Rattle.rl_syntax.specs.Tree.{Tree, empty, one, guard, either, places}
 use Rattle.rl_pattern.specs.Cut.{choice_of, remaining, remaining_items, remaining_branches}
 use Rattle.rl_pattern.specs.Suggested.{same_span, among, no_span, some_kept, may_go, items_may_go, branches_may_go, holds_capture}
@@ -89,6 +90,7 @@ module _ (drop gone : Span → Bool) where
     gone_flags (p.group s c q) = gone_flags q
     gone_flags (p.anchor s k m) = refl
     gone_flags (p.boundary s n a) = refl
+    gone_flags (p.look s b i r) = refl
     gone_flags (p.outside s f) = refl
 
     gone_items : (qs : p.PatTrees) → Each Gone gone_of_parts (items_flags drop gone false qs) (items_lowered (remaining_items drop no_span qs)) (items_lowered (remaining_items drop no_span qs))
@@ -132,6 +134,7 @@ module _ (drop gone : Span → Bool) where
     kept_flags (p.group s c q) h n = kept_flags q h n
     kept_flags (p.anchor s k m) h n = whole {t = guard (guard_of k m)}
     kept_flags (p.boundary s i a) h n = whole {t = guard (boundary_guard i a)}
+    kept_flags (p.look s b i r) h n = whole {t = guard (Look b i r)}
     kept_flags (p.outside s f) h n = whole {t = empty}
 
     kept_items : (qs : p.PatTrees) → items_may_go both qs ≡ true → items_lose_empty drop gone qs ≡ false → Each Without without_of_parts (items_flags drop gone true qs) (items_lowered (remaining_items both no_span qs)) (items_lowered (remaining_items drop no_span qs))

@@ -4,7 +4,7 @@ use Rattle.std.proofs.lemmas.Bool.{cond_both}
 use Rattle.rl_ranges.specs.declared.universe.Universe.{Universe}
 use Rattle.rl_syntax.specs.declared.span.Span.{Span}
 use Rattle.rl_syntax.specs.IsPattern.{IsPart, AreParts, AreBranches, IsPattern, is_leading_item, is_trailing_item, begins_anchored, ends_anchored, is_bare}
-use Rattle.rl_syntax.specs.PatTree.{PatTree, PatTrees, BranchTrees, nothing, class, seq, choice, repeat, group, anchor, boundary, outside, no_items, item, no_branches, branch, items_of, branches_of}
+use Rattle.rl_syntax.specs.PatTree.{PatTree, PatTrees, BranchTrees, nothing, class, seq, choice, repeat, group, anchor, boundary, look, outside, no_items, item, no_branches, branch, items_of, branches_of}
 use Rattle.rl_pattern.specs.Cut.{choice_of, remaining, remaining_items, remaining_branches}
 use Rattle.rl_pattern.specs.Suggested.{no_span, holds_guard, some_guard, branch_guard}
 use Rattle.rl_pattern.proofs.Linking.{or_none}
@@ -39,6 +39,7 @@ module _ (u : Universe) (drop : Span → Bool) where
     left_part (group s c p) h = left_part p h
     left_part (anchor s k m) h = h
     left_part (boundary s n a) h = h
+    left_part (look s b i r) h = h
     left_part (outside s f) h = h
 
     left_parts : (ps : PatTrees) → AreParts u ps → AreParts u (remaining_items drop no_span ps)
@@ -73,6 +74,7 @@ module _ (drop : Span → Bool) where
     left_guardless (group s c p) h = left_guardless p h
     left_guardless (anchor s k m) h = h
     left_guardless (boundary s n a) h = h
+    left_guardless (look s b i r) h = h
     left_guardless (outside s f) h = h
 
     items_guardless : (ps : PatTrees) → some_guard ps ≡ false → some_guard (remaining_items drop no_span ps) ≡ false
@@ -96,6 +98,7 @@ no_leading (repeat s q l m g p) h = refl
 no_leading (group s c p) h = refl
 no_leading (anchor s k m) h = absurd (true≢false h)
 no_leading (boundary s n a) h = refl
+no_leading (look s b i r) h = refl
 no_leading (outside s f) h = refl
 
 no_trailing : (p : PatTree) → holds_guard p ≡ false → is_trailing_item p ≡ false
@@ -107,6 +110,7 @@ no_trailing (repeat s q l m g p) h = refl
 no_trailing (group s c p) h = refl
 no_trailing (anchor s k m) h = absurd (true≢false h)
 no_trailing (boundary s n a) h = refl
+no_trailing (look s b i r) h = refl
 no_trailing (outside s f) h = refl
 
 no_begin : (ps : PatTrees) → some_guard ps ≡ false → begins_anchored ps ≡ false
@@ -132,6 +136,7 @@ guardless_bare (repeat s q l m g p) h = refl
 guardless_bare (group s c p) h = refl
 guardless_bare (anchor s k m) h = absurd (true≢false h)
 guardless_bare (boundary s n a) h = refl
+guardless_bare (look s b i r) h = refl
 guardless_bare (outside s f) h = refl
 
 pub left_judged : (u : Universe) (drop : Span → Bool) (p : PatTree) → holds_guard p ≡ false → IsPattern u p → IsPattern u (remaining drop no_span p)

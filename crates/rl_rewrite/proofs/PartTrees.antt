@@ -7,7 +7,7 @@ use Rattle.rl_syntax.specs.declared.pat.Branch.{Branch}
 use Rattle.rl_syntax.specs.declared.pat.Pat.TheVariants as V
 use Rattle.rl_syntax.specs.declared.pat.Pat.TheFolds.{fold-roll-Pat}
 use Rattle.rl_syntax.specs.declared.pat.Pat.{Pat-F}
-use Rattle.rl_syntax.specs.PatTree.{PatTree, class, seq, choice, repeat, group, items_of, branches_of, pat_of, layer_of, branch_of}
+use Rattle.rl_syntax.specs.PatTree.{PatTree, class, look, seq, choice, repeat, group, items_of, branches_of, pat_of, layer_of, branch_of}
 use Rattle.rl_syntax.specs.Counting.{branch_tree}
 use Rattle.rl_pattern.specs.Cut.{choice_of, remaining}
 use Rattle.rl_pattern.specs.Suggested.{no_span}
@@ -22,6 +22,9 @@ choice-tree s bs = ap pat_of (sym (V.rolls-Choice s bs)) ∙ fold-roll-Pat PatTr
 
 pub class-tree : (s : Span) (set : List (ℕ × ℕ)) → pat_of (V.Class s set) ≡ class s (has set)
 class-tree s set = ap pat_of (sym (V.rolls-Class s set)) ∙ fold-roll-Pat PatTree (Span × PatTree) layer_of branch_of (Pat-F.Class s set)
+
+pub look-tree : (s : Span) (behind negated : Bool) (set : List (ℕ × ℕ)) → pat_of (V.Look s behind negated set) ≡ look s behind negated set
+look-tree s behind negated set = ap pat_of (sym (V.rolls-Look s behind negated set)) ∙ fold-roll-Pat PatTree (Span × PatTree) layer_of branch_of (Pat-F.Look s behind negated set)
 
 pub repeat-tree : (s m : Span) (least : ℕ) (most : Option ℕ) (g : Bool) (b : Box Pat Global) → pat_of (V.Repeat s m least most g b) ≡ repeat s m least most g (pat_of b.value)
 repeat-tree s m least most g b = ap pat_of (sym (V.rolls-Repeat s m least most g b)) ∙ fold-roll-Pat PatTree (Span × PatTree) layer_of branch_of (Pat-F.Repeat s m least most g b)

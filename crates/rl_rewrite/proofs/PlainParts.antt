@@ -5,7 +5,7 @@ use Rattle.std.proofs.lemmas.Bool.{eqb-true}
 use Rattle.rl_syntax.specs.declared.span.Span.{Span}
 use Rattle.rl_syntax.specs.declared.pattern.Pattern.{Pattern}
 use Rattle.rl_syntax.specs.Pattern.{body_of, universe_of}
-use Rattle.rl_syntax.specs.PatTree.{PatTree, PatTrees, nothing, class, seq, choice, repeat, group, anchor, boundary, outside, no_items, item, no_branches, branch, branches_of, pat_of}
+use Rattle.rl_syntax.specs.PatTree.{PatTree, PatTrees, nothing, class, seq, choice, repeat, group, anchor, boundary, look, outside, no_items, item, no_branches, branch, branches_of, pat_of}
 use Rattle.rl_syntax.specs.Counting.{branch_tree}
 use Rattle.rl_syntax.specs.declared.pat.Pat.{Pat}
 use Rattle.rl_syntax.specs.declared.pat.Branch.{Branch}
@@ -51,6 +51,7 @@ mutual
   branches_none (group s c p) h = branches_none p h
   branches_none (anchor s k m) h = refl
   branches_none (boundary s n a) h = refl
+  branches_none (look s b i r) h = refl
   branches_none (outside s f) h = refl
 
   items_none : (ps : PatTrees) → items_hold_branch ps ≡ false → items_branches ps ≡ []
@@ -70,6 +71,7 @@ mutual
   branches_some (group s c p) h e = branches_some p h e
   branches_some (anchor s k m) h e = true≢false (sym h)
   branches_some (boundary s n a) h e = true≢false (sym h)
+  branches_some (look s b i r) h e = true≢false (sym h)
   branches_some (outside s f) h e = true≢false (sym h)
 
   items_some : (ps : PatTrees) → items_hold_branch ps ≡ true → items_branches ps ≡ [] → ⊥
@@ -93,6 +95,7 @@ mutual
   captures_left (group s c p) h = ap (λ b. c || b) (captures_left p h)
   captures_left (anchor s k m) h = refl
   captures_left (boundary s n a) h = refl
+  captures_left (look s b i r) h = refl
   captures_left (outside s f) h = refl
 
   some_captures : (ps : PatTrees) → items_branches ps ≡ [] → some_capture (remaining_items (among []) no_span ps) ≡ some_capture ps
@@ -113,6 +116,7 @@ mutual
   merged_left (group s c p) h = merged_left p h
   merged_left (anchor s k m) h = refl
   merged_left (boundary s n a) h = refl
+  merged_left (look s b i r) h = refl
   merged_left (outside s f) h = refl
 
   items_left : (ps : PatTrees) → items_branches ps ≡ [] → items_merged (remaining_items (among []) no_span ps) ≡ items_merged ps
@@ -131,6 +135,7 @@ mutual
   under_left (group s c p) least most h = inside_left p c least most h
   under_left (anchor s k m) least most h = refl
   under_left (boundary s n a) least most h = refl
+  under_left (look s b i r) least most h = refl
   under_left (outside s f) least most h = refl
 
   inside_left : (p : PatTree) (c : Bool) (least : ℕ) (most : Option ℕ) → branches_in p ≡ [] → merged_at (inside c least most) (remaining (among []) no_span p) ≡ merged_at (inside c least most) p
@@ -145,6 +150,7 @@ mutual
   inside_left (group s d p) c least most h = merged_left p h
   inside_left (anchor s k m) c least most h = refl
   inside_left (boundary s n a) c least most h = refl
+  inside_left (look s b i r) c least most h = refl
   inside_left (outside s f) c least most h = refl
 
 none_text : (text : List ℕ) → None ≡ Some text → ⊥

@@ -51,6 +51,7 @@ mutual
   none_left (p.group s c q) = none_left q
   none_left (p.anchor s k m) = refl
   none_left (p.boundary s n a) = refl
+  none_left (p.look s b i r) = refl
   none_left (p.outside s f) = refl
 
   items_none : (qs : p.PatTrees) → items_lowered (remaining_items (among []) no_span qs) ≡ items_lowered qs

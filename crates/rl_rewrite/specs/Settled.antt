@@ -1,5 +1,5 @@
--- What becomes of each branch of a body without a guard, which is an anchor or a word boundary. A branch is identified by its
--- span. A trial of a branch compares the language of the body with and without it, up to a limit.
+-- What becomes of each branch of a body without a guard, which is an anchor, a word boundary or a lookaround. A branch is
+-- identified by its span. A trial of a branch compares the language of the body with and without it, up to a limit.
 use Rattle.std.specs.Prelude.{◌≡◌, ℕ, true, false, List, ◌∷◌, ◌++◌}
 use Rattle.rl_ranges.specs.declared.universe.Universe.{Universe}
 use Rattle.rl_syntax.specs.declared.span.Span.{Span}

@@ -25,6 +25,7 @@ fn put_branches(part: &Pat, found: &mut Spans) -> Result<(), OutOfMemory>
         | Pat::Class { .. }
         | Pat::Anchor { .. }
         | Pat::Boundary { .. }
+        | Pat::Look { .. }
         | Pat::Outside { .. } => Ok(()),
         Pat::Seq { items, .. } => put_items_branches(items.as_slice(), found),
         Pat::Choice { branches, .. } => put_choice_branches(branches.as_slice(), found),
@@ -75,6 +76,7 @@ pub(crate) fn may_go(part: &Pat, dropped: &[Span]) -> bool
         | Pat::Class { .. }
         | Pat::Anchor { .. }
         | Pat::Boundary { .. }
+        | Pat::Look { .. }
         | Pat::Outside { .. } => true,
         Pat::Seq { items, .. } => items_may_go(items.as_slice(), dropped),
         Pat::Choice { branches, .. } => {

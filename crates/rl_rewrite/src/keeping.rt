@@ -25,16 +25,19 @@ use std::alloc::Global;
 /// A flag for each place, from left to right, which says whether the place is kept.
 pub(crate) type Flags = Items<bool>;
 
-/// Returns whether what is left of a part without the dropped branches may span the empty text. Anchors, boundaries and
-/// features that aren't judged (`Outside`) count as spanning it, and so does a choice without branches.
+/// Returns whether what is left of a part without the dropped branches may span the empty text. Anchors, boundaries,
+/// lookarounds and features that aren't judged (`Outside`) count as spanning it, and so does a choice without branches.
 #[cycle(empty)]
 fn may_be_empty(part: &Pat, dropped: &[Span]) -> bool
     ensures { result ≡ spans_empty (lies_among dropped.now) (pat_of part.now) }
 {
     match part {
         Pat::Class { .. } => false,
-        Pat::Nothing { .. } | Pat::Anchor { .. } | Pat::Boundary { .. } | Pat::Outside { .. } =>
-            true,
+        Pat::Nothing { .. }
+        | Pat::Anchor { .. }
+        | Pat::Boundary { .. }
+        | Pat::Look { .. }
+        | Pat::Outside { .. } => true,
         Pat::Seq { items, .. } => items_may_be_empty(items.as_slice(), dropped),
         Pat::Choice { branches, .. } => {
             let kept = some_kept(branches.as_slice(), dropped);
@@ -92,6 +95,7 @@ fn may_lose_empty(part: &Pat, dropped: &[Span], gone: &[Span]) -> bool
         | Pat::Class { .. }
         | Pat::Anchor { .. }
         | Pat::Boundary { .. }
+        | Pat::Look { .. }
         | Pat::Outside { .. } => false,
         Pat::Seq { items, .. } => items_may_lose_empty(items.as_slice(), dropped, gone),
         Pat::Choice { branches, .. } => branches_may_lose_empty(branches.as_slice(), dropped, gone),
@@ -179,9 +183,11 @@ fn put_flags(
     ensures { OnOk result (found.new.items ≡ found.old.items ++ flags_in (lies_among dropped.now) (lies_among gone.now) keep (pat_of part.now)) }
 {
     match part {
-        Pat::Nothing { .. } | Pat::Anchor { .. } | Pat::Boundary { .. } | Pat::Outside { .. } => Ok(
-            (),
-        ),
+        Pat::Nothing { .. }
+        | Pat::Anchor { .. }
+        | Pat::Boundary { .. }
+        | Pat::Look { .. }
+        | Pat::Outside { .. } => Ok(()),
         Pat::Class { .. } => {
             found.push(keep)?;
             Ok(())

@@ -2,7 +2,8 @@
 //!
 //! Branches and quantifiers are identified by their spans. The body of a pattern is the pattern without its outer anchors. The
 //! rules allow branches to be dropped if none of them contains a capturing group and each remaining choice keeps at least one
-//! branch. A guard is an anchor or a word boundary. A branch is given up if its trial exceeds the limit.
+//! branch. A guard is an anchor, a word boundary or a lookaround. A branch is given up if its
+//! trial exceeds the limit.
 
 ghost use Rattle.std.specs.Prelude.{◌≡◌, ◌≤◌, ℕ, Bool, true, false, List, [], All, Option, Result, Ok};
 ghost use Rattle.rl_ranges.specs.Text.{IsText};

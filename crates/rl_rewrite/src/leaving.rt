@@ -141,6 +141,20 @@ pub(crate) fn left_part(alloc: Global, part: &Pat, dropped: &[Span]) -> Result<P
             negated: *negated,
             ascii: *ascii,
         }),
+        Pat::Look {
+            span,
+            behind,
+            negated,
+            set,
+        } => {
+            let set = set.copy()?;
+            Ok(Pat::Look {
+                span: *span,
+                behind: *behind,
+                negated: *negated,
+                set,
+            })
+        }
         Pat::Outside { span, what } => Ok(Pat::Outside {
             span: *span,
             what: *what,

@@ -79,6 +79,7 @@ fn put_merged(part: &Pat, place: Place, found: &mut Spans) -> Result<(), OutOfMe
         | Pat::Class { .. }
         | Pat::Anchor { .. }
         | Pat::Boundary { .. }
+        | Pat::Look { .. }
         | Pat::Outside { .. } => Ok(()),
         Pat::Seq { items, .. } => put_items_merged(items.as_slice(), found),
         Pat::Choice { branches, .. } => put_branches_merged(branches.as_slice(), found),

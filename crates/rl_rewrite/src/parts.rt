@@ -1,4 +1,4 @@
-//! Tests of what a pattern contains: a guard, which is an anchor or a word boundary, or a capturing group.
+//! Tests of what a pattern contains: a guard, which is an anchor, a word boundary or a lookaround, or a capturing group.
 
 ghost use Rattle.std.specs.Prelude.{◌≡◌, map};
 ghost use Rattle.rl_syntax.specs.PatTree.{pat_of, items_of, branches_of};
@@ -20,21 +20,21 @@ pub(crate) fn among(spans: &[Span], span: Span) -> bool
     found
 }
 
-/// Returns whether a part contains an anchor or a word boundary.
+/// Returns whether a part contains an anchor, a word boundary or a lookaround.
 #[cycle(guards)]
 pub(crate) fn holds_guard(part: &Pat) -> bool
     ensures { result ≡ guard_in (pat_of part.now) }
 {
     match part {
         Pat::Nothing { .. } | Pat::Class { .. } | Pat::Outside { .. } => false,
-        Pat::Anchor { .. } | Pat::Boundary { .. } => true,
+        Pat::Anchor { .. } | Pat::Boundary { .. } | Pat::Look { .. } => true,
         Pat::Seq { items, .. } => items_hold_guard(items.as_slice()),
         Pat::Choice { branches, .. } => branches_hold_guard(branches.as_slice()),
         Pat::Repeat { body, .. } | Pat::Group { body, .. } => holds_guard(body),
     }
 }
 
-/// Returns whether at least one of the items contains an anchor or a word boundary.
+/// Returns whether at least one of the items contains an anchor, a word boundary or a lookaround.
 #[cycle(guards)]
 fn items_hold_guard(items: &[Pat]) -> bool
     ensures { result ≡ some_guard (items_of (map pat_of items.now)) }
@@ -46,7 +46,7 @@ fn items_hold_guard(items: &[Pat]) -> bool
     held
 }
 
-/// Returns whether at least one of the branches contains an anchor or a word boundary.
+/// Returns whether at least one of the branches contains an anchor, a word boundary or a lookaround.
 #[cycle(guards)]
 fn branches_hold_guard(branches: &[Branch]) -> bool
     ensures { result ≡ branch_guard (branches_of (map branch_tree branches.now)) }
@@ -68,7 +68,8 @@ pub(crate) fn holds_capture(part: &Pat) -> bool
         | Pat::Class { .. }
         | Pat::Outside { .. }
         | Pat::Anchor { .. }
-        | Pat::Boundary { .. } => false,
+        | Pat::Boundary { .. }
+        | Pat::Look { .. } => false,
         Pat::Seq { items, .. } => items_hold_capture(items.as_slice()),
         Pat::Choice { branches, .. } => branches_hold_capture(branches.as_slice()),
         Pat::Repeat { body, .. } => holds_capture(body),

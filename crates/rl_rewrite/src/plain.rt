@@ -23,6 +23,7 @@ fn holds_branch(part: &Pat) -> bool
         | Pat::Class { .. }
         | Pat::Anchor { .. }
         | Pat::Boundary { .. }
+        | Pat::Look { .. }
         | Pat::Outside { .. } => false,
         Pat::Seq { items, .. } => items_hold_branch(items.as_slice()),
         Pat::Choice { branches, .. } => !branches.is_empty(),

@@ -67,6 +67,7 @@ fn put_holes(
         | Pat::Class { .. }
         | Pat::Anchor { .. }
         | Pat::Boundary { .. }
+        | Pat::Look { .. }
         | Pat::Outside { .. } => Ok(()),
         Pat::Seq { items, .. } => put_items_holes(items.as_slice(), dropped, merged, found),
         Pat::Choice { branches, .. } => {

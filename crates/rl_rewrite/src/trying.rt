@@ -9,9 +9,9 @@
 //! branches dropped since left out. Only if this isn't found is the automaton of what is left made. If a trial on the automaton
 //! gives no outcome, both trees are compared, and the base is made for this.
 //!
-//! Branches are tried only if the body contains no guard, that is, no anchor and no word boundary. The body must not exceed a
-//! limit, and the rules must allow the dropped branches to be dropped. `limit` is the most set pairs that a trial may look at,
-//! from 1 to `MOST_SET_PAIRS`.
+//! Branches are tried only if the body contains no guard, that is, no anchor, no word boundary and no lookaround. The body must
+//! not exceed a limit, and the rules must allow the dropped branches to be dropped. `limit` is the most set pairs that a trial
+//! may look at, from 1 to `MOST_SET_PAIRS`.
 
 ghost use Rattle.std.specs.Prelude.{◌≡◌, ◌≤◌, [], ◌∷◌, ◌++◌, List, false, true, IfOk, OnOk, IfSome};
 ghost use Rattle.rl_syntax.specs.declared.span.Span.{Span as AnySpan};
@@ -536,8 +536,8 @@ fn try_branches(
     Ok(Tried { dropped, passed })
 }
 
-/// Tries all branches of a body, or none if the body contains an anchor or a word boundary, and returns the outcome. `base` is
-/// the tree of the whole body.
+/// Tries all branches of a body, or none if the body contains an anchor, a word boundary or a lookaround, and returns the
+/// outcome. `base` is the tree of the whole body.
 pub(crate) fn tries_of(
     alloc: Global,
     p: &Pattern,

@@ -1,7 +1,7 @@
 -- For the contracts of private functions: whether a pattern contains a branch. A branch is one of the alternatives of a
 -- choice, which `|` separates.
 use Rattle.std.specs.Prelude.{Bool, true, false, ◌||◌}
-use Rattle.rl_syntax.specs.PatTree.{PatTree, PatTrees, BranchTrees, nothing, class, seq, choice, repeat, group, anchor, boundary, outside, no_items, item, no_branches, branch}
+use Rattle.rl_syntax.specs.PatTree.{PatTree, PatTrees, BranchTrees, nothing, class, seq, choice, repeat, group, anchor, boundary, look, outside, no_items, item, no_branches, branch}
 
 -- Whether there is at least one branch.
 abbrev pub is_some_branch : BranchTrees → Bool
@@ -19,6 +19,7 @@ abbrev mutual
   holds_branch (group s captures p) = holds_branch p
   holds_branch (anchor s kind multiline) = false
   holds_branch (boundary s negated ascii) = false
+  holds_branch (look s behind negated ranges) = false
   holds_branch (outside s what) = false
 
   -- Whether at least one of the items contains a branch of some choice.

@@ -3,7 +3,7 @@
 -- `upto`.
 use Rattle.std.specs.Prelude.{ℕ, suc, ◌-◌, Bool, true, false, ◌||◌, if◌then◌else◌, List, [], ◌∷◌, ◌++◌}
 use Rattle.rl_syntax.specs.declared.span.Span.{Span}
-use Rattle.rl_syntax.specs.PatTree.{PatTree, PatTrees, BranchTrees, nothing, class, seq, choice, repeat, group, anchor, boundary, outside, no_items, item, no_branches, branch}
+use Rattle.rl_syntax.specs.PatTree.{PatTree, PatTrees, BranchTrees, nothing, class, seq, choice, repeat, group, anchor, boundary, look, outside, no_items, item, no_branches, branch}
 use Rattle.rl_pattern.specs.Cut.{lies_in}
 use Rattle.rl_rewrite.specs.declared.spelling.Hole.{Hole}
 
@@ -34,6 +34,7 @@ module _ (drop out : Span → Bool) where
     holes_in (group s captures p) = holes_in p
     holes_in (anchor s kind multiline) = []
     holes_in (boundary s negated ascii) = []
+    holes_in (look s behind negated ranges) = []
     holes_in (outside s what) = []
 
     -- The holes of a sequence of items, item by item.

@@ -4,7 +4,7 @@
 -- those to be dropped next.
 use Rattle.std.specs.Prelude.{ℕ, zero, suc, ◌+◌, ◌-◌, Bool, true, false, not, ◌&&◌, ◌||◌, ◌==◌, if◌then◌else◌, List, [], ◌∷◌, ◌++◌, Option, None, Some}
 use Rattle.rl_syntax.specs.declared.span.Span.{Span}
-use Rattle.rl_syntax.specs.PatTree.{PatTree, PatTrees, BranchTrees, nothing, class, seq, choice, repeat, group, anchor, boundary, outside, no_items, item, no_branches, branch}
+use Rattle.rl_syntax.specs.PatTree.{PatTree, PatTrees, BranchTrees, nothing, class, seq, choice, repeat, group, anchor, boundary, look, outside, no_items, item, no_branches, branch}
 use Rattle.rl_pattern.specs.Suggested.{some_kept}
 
 -- The number of copies of its body to which a repeat is lowered: the greater of its two bounds, or one more than its lower
@@ -19,8 +19,8 @@ repeated zero flags = []
 repeated (suc n) flags = flags ++ repeated n flags
 
 module _ (drop : Span → Bool) where
-  -- Whether what is left of a part without the dropped branches may span the empty text. Anchors, boundaries and features that
-  -- aren't judged (`outside`) count as spanning it, and so does a choice without branches.
+  -- Whether what is left of a part without the dropped branches may span the empty text. Anchors, boundaries, lookarounds and
+  -- features that aren't judged (`outside`) count as spanning it, and so does a choice without branches.
   abbrev mutual
     pub spans_empty : PatTree → Bool
     spans_empty (nothing s) = true
@@ -31,6 +31,7 @@ module _ (drop : Span → Bool) where
     spans_empty (group s captures p) = spans_empty p
     spans_empty (anchor s kind multiline) = true
     spans_empty (boundary s negated ascii) = true
+    spans_empty (look s behind negated ranges) = true
     spans_empty (outside s what) = true
 
     -- Whether all items, without the dropped branches, may span the empty text.
@@ -56,6 +57,7 @@ module _ (drop gone : Span → Bool) where
     loses_empty (group s captures p) = loses_empty p
     loses_empty (anchor s kind multiline) = false
     loses_empty (boundary s negated ascii) = false
+    loses_empty (look s behind negated ranges) = false
     loses_empty (outside s what) = false
 
     -- Whether one of the items has such a branch.
@@ -81,6 +83,7 @@ module _ (drop gone : Span → Bool) where
     flags_in keep (group s captures p) = flags_in keep p
     flags_in keep (anchor s kind multiline) = []
     flags_in keep (boundary s negated ascii) = []
+    flags_in keep (look s behind negated ranges) = []
     flags_in keep (outside s what) = []
 
     -- The flags of the places of a sequence of items, item by item.

@@ -8,7 +8,7 @@ use Rattle.rl_syntax.specs.Counting.{branch_tree}
 use Rattle.rl_pattern.specs.Cut.{remaining}
 use Rattle.rl_pattern.specs.Suggested.{among, no_span}
 use Rattle.rl_rewrite.specs.internal.LeftLists.{all_remaining, some_remaining}
-use Rattle.rl_rewrite.proofs.PartTrees.{class-tree, repeat-tree, group-tree, leaf_left, seq_left, choice_left}
+use Rattle.rl_rewrite.proofs.PartTrees.{class-tree, look-tree, repeat-tree, group-tree, leaf_left, seq_left, choice_left}
 use Rattle.rl_rewrite.proofs.Rounds.{from_place, trees_from, one_more, none_more, one_seen}
 use Rattle.rl_rewrite.proofs.leaving.+leaving.Goals as goal
 use Rattle.rl_rewrite.proofs.leaving.+leaving.Goals.{put_branches_left-then-not-among+in_ok-body+in_ok-push, put_branches_left-else-not-among}
@@ -42,6 +42,11 @@ pub left_part-returns-in_ok-set-in-Class : goal.left_part-returns-in_ok-set-in-C
 left_part-returns-in_ok-set-in-Class t c =
     let s = c.in-Class.span in
     ap (λ codes. pat_of (V.Class s codes)) c.in_ok-set-in-Class.ensures ∙ leaf_left (among c.args.dropped.now) (V.Class s c.in-Class.set) _ c.args.part.now c.in-Class.is (class-tree s c.in-Class.set) refl
+
+pub left_part-returns-in_ok-set-in-Look : goal.left_part-returns-in_ok-set-in-Look
+left_part-returns-in_ok-set-in-Look t c =
+    let l = c.in-Look in
+    ap (λ codes. pat_of (V.Look l.span l.behind l.negated codes)) c.in_ok-set-in-Look.ensures ∙ leaf_left (among c.args.dropped.now) (V.Look l.span l.behind l.negated l.set) _ c.args.part.now l.is (look-tree l.span l.behind l.negated l.set) refl
 
 pub left_part-returns-in_ok-body-in-Repeat : goal.left_part-returns-in_ok-body-in-Repeat
 left_part-returns-in_ok-body-in-Repeat t c =
