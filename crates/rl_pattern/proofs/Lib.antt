@@ -18,6 +18,7 @@ pub mod Anchors
 pub mod LeafLaws
 pub mod ShapeParts
 pub mod InnerBare
+pub mod Looks
 pub mod Tokens
 pub mod Locality
 pub mod Holes
