@@ -6,11 +6,11 @@ use Rattle.std.proofs.lemmas.Result.{err_from_is_err_and}
 use Rattle.rl_ranges.specs.Text.{IsText}
 use Rattle.rl_ranges.specs.declared.universe.Universe.{Universe}
 use Rattle.rl_ranges.specs.declared.universe.Universe.TheVariants.{Str}
+use Rattle.rl_syntax.specs.Family.{family_text}
 use Rattle.rl_syntax.specs.Pattern.{universe_of}
 use Rattle.rl_syntax.specs.declared.pattern.Pattern.{Pattern}
 use Rattle.rl_syntax.specs.declared.re.Mode.{Mode}
 use Rattle.rl_syntax.specs.declared.verdict.Suggestion.{Suggestion}
-use Rattle.rl_pattern.specs.Parsed.{IsParsed}
 use Rattle.rl_pattern.specs.declared.flags.Flags.{Flags}
 use Rattle.rl_pattern.specs.declared.parsing.PatError.{PatError}
 use Rattle.rl_pattern.specs.declared.parsing.PatError.TheVariants as error
@@ -22,9 +22,12 @@ use Rattle.rl_asked.specs.Words.{Text}
 use Rattle.rl_asked.specs.declared.question.Terms.{Terms}
 use Rattle.rl_ask.specs.Answers.{IsRight, IsTellable}
 use Rattle.rl_ask.specs.Comparisons.{AreCompared}
-use Rattle.rl_ask.specs.Costs.{IsCost, IsCostOf, too_long, counted}
+use Rattle.rl_ask.specs.Costs.{IsCost, IsCostOf, family_named, too_long, counted}
 use Rattle.rl_ask.specs.Document.{universe_of as universe_asked}
 use Rattle.rl_ask.specs.Explanations.{IsExplained}
+use Rattle.rl_ask.specs.Grammars.{IsParsedIn, grammar_in, grammar_of_finds}
+use Rattle.rl_ask.specs.declared.grammar.Grammar.{Grammar}
+use Rattle.rl_ask.specs.declared.grammar.Grammar.TheVariants.{Profile, Wider}
 use Rattle.rl_ask.specs.Finds.{IsFoundOn, IsSight, exceeds, runs}
 use Rattle.rl_ask.specs.Suggestions.{IsSuggested}
 use Rattle.rl_ask.specs.Trees.{IsTree}
@@ -56,22 +59,27 @@ outside-refused terms word w is same isnt told text =
     let yes : is ≡ true = told (subst (IsText terms.universe) (sym same) text) in
     let never : true ≡ false = sym yes ∙ isnt in cc
 
-pub is-read : (terms : Terms) (word : Text) (w : List ℕ) (p : Pattern) → w ≡ chars word → IsText terms.universe w
-    → IsParsed terms.flags terms.universe w (Ok p) → IsReadAs terms word p
-is-read terms word w p same text parsed = record {
+pub is-read : (grammar : Grammar) (terms : Terms) (word : Text) (w : List ℕ) (p : Pattern) → w ≡ chars word → IsText terms.universe w
+    → IsParsedIn grammar terms.flags terms.universe w (Ok p) → IsReadAs grammar terms word p
+is-read grammar terms word w p same text parsed = record {
   text = subst (IsText terms.universe) same text;
-  parsed = subst (λ v. IsParsed terms.flags terms.universe v (Ok p)) same parsed;
+  parsed = subst (λ v. IsParsedIn grammar terms.flags terms.universe v (Ok p)) same parsed;
 }
 
-pub parse-refused : (terms : Terms) (word : Text) (w : List ℕ) (e : PatError) → w ≡ chars word → IsText terms.universe w
-    → IsParsed terms.flags terms.universe w (Err e) → e ≢ error.OutOfMemory → IsRefusedFor terms word (fault.Pattern e)
-parse-refused terms word w e same text parsed other =
-    (subst (IsText terms.universe) same text, subst (λ v. IsParsed terms.flags terms.universe v (Err e)) same parsed, other)
+-- The universe of a pattern is that of the terms.
+pub universe-read : (grammar : Grammar) (terms : Terms) (word : Text) (p : Pattern) → IsReadAs grammar terms word p → universe_of p ≡ terms.universe
+universe-read Profile terms word p is = is.parsed.1.pattern.universe
+universe-read (Wider dollar) terms word p is = is.parsed.1.pattern.universe
 
-pub refused-so : {E : Type 0} (r : Result PatternRead E) (terms : Terms) (word : Text) (w : List ℕ) (e : PatError) → w ≡ chars word → IsText terms.universe w
-    → IsParsed terms.flags terms.universe w (Err e) → IfOk r (λ x. (x ≡ Refused (fault.Pattern e)) × (e ≢ error.OutOfMemory)) → IfOk r (IsPatternRead terms word)
-refused-so (Ok x) terms word w e same text parsed h = subst (IsPatternRead terms word) (sym h.0) (parse-refused terms word w e same text parsed h.1)
-refused-so (Err x) terms word w e same text parsed h = tt
+pub parse-refused : (grammar : Grammar) (terms : Terms) (word : Text) (w : List ℕ) (e : PatError) → w ≡ chars word → IsText terms.universe w
+    → IsParsedIn grammar terms.flags terms.universe w (Err e) → e ≢ error.OutOfMemory → IsRefusedFor grammar terms word (fault.Pattern e)
+parse-refused grammar terms word w e same text parsed other =
+    (subst (IsText terms.universe) same text, subst (λ v. IsParsedIn grammar terms.flags terms.universe v (Err e)) same parsed, other)
+
+pub refused-so : {E : Type 0} (r : Result PatternRead E) (grammar : Grammar) (terms : Terms) (word : Text) (w : List ℕ) (e : PatError) → w ≡ chars word → IsText terms.universe w
+    → IsParsedIn grammar terms.flags terms.universe w (Err e) → IfOk r (λ x. (x ≡ Refused (fault.Pattern e)) × (e ≢ error.OutOfMemory)) → IfOk r (IsPatternRead grammar terms word)
+refused-so (Ok x) grammar terms word w e same text parsed h = subst (IsPatternRead grammar terms word) (sym h.0) (parse-refused grammar terms word w e same text parsed h.1)
+refused-so (Err x) grammar terms word w e same text parsed h = tt
 
 -- A suggestion that is right under all flags, for all codes and limits.
 pub some-right : (o : Option Suggestion) (s : Suggestion) (Is : Flags → List ℕ → ℕ → Suggestion → Type 0) → o ≡ Some s
@@ -85,25 +93,25 @@ pub error-with : {T E : Type 0} (r : Result T E) (x : E) (P : E → Type 0) → 
 error-with r x P h k = let p = err_from_is_err_and r h in subst (λ v. IfErr v P) (sym p.1) (subst P (sym p.2) k)
 
 module _ {E : Type 0} (r : Result Answer E) where
-  pub read-so : (terms : Terms) (word : Text) (Next : Pattern → Answer → Type 0) (p : Pattern) → IsReadAs terms word p → IfOk r (Next p) → IfOk r (ReadThen terms word Next)
-  read-so terms word Next p is h = by r h
+  pub read-so : (grammar : Grammar) (terms : Terms) (word : Text) (Next : Pattern → Answer → Type 0) (p : Pattern) → IsReadAs grammar terms word p → IfOk r (Next p) → IfOk r (ReadThen grammar terms word Next)
+  read-so grammar terms word Next p is h = by r h
     where
-      by : (s : Result Answer E) → IfOk s (Next p) → IfOk s (ReadThen terms word Next)
+      by : (s : Result Answer E) → IfOk s (Next p) → IfOk s (ReadThen grammar terms word Next)
       by (Ok given) h = read is h
       by (Err e) h = tt
 
-  pub second-so : (terms : Terms) (word : Text) (Next : Pattern → Answer → Type 0) (q : Pattern) → IsReadAs terms word q → IfOk r (Next q) → IfOk r (SecondReadThen terms word Next)
-  second-so terms word Next q is h = by r h
+  pub second-so : (grammar : Grammar) (terms : Terms) (word : Text) (Next : Pattern → Answer → Type 0) (q : Pattern) → IsReadAs grammar terms word q → IfOk r (Next q) → IfOk r (SecondReadThen grammar terms word Next)
+  second-so grammar terms word Next q is h = by r h
     where
-      by : (s : Result Answer E) → IfOk s (Next q) → IfOk s (SecondReadThen terms word Next)
+      by : (s : Result Answer E) → IfOk s (Next q) → IfOk s (SecondReadThen grammar terms word Next)
       by (Ok given) h = second_read is h
       by (Err e) h = tt
 
-  pub first-so : (terms : Terms) (first second : Text) (Next : Pattern → Pattern → Answer → Type 0) (p : Pattern) → IsReadAs terms first p
-      → IfOk r (SecondReadThen terms second (Next p)) → IfOk r (BothReadThen terms first second Next)
-  first-so terms first second Next p is h = by r h
+  pub first-so : (grammar : Grammar) (terms : Terms) (first second : Text) (Next : Pattern → Pattern → Answer → Type 0) (p : Pattern) → IsReadAs grammar terms first p
+      → IfOk r (SecondReadThen grammar terms second (Next p)) → IfOk r (BothReadThen grammar terms first second Next)
+  first-so grammar terms first second Next p is h = by r h
     where
-      by : (s : Result Answer E) → IfOk s (SecondReadThen terms second (Next p)) → IfOk s (BothReadThen terms first second Next)
+      by : (s : Result Answer E) → IfOk s (SecondReadThen grammar terms second (Next p)) → IfOk s (BothReadThen grammar terms first second Next)
       by (Ok given) h = first_read is h
       by (Err e) h = tt
 
@@ -123,16 +131,16 @@ module _ {E : Type 0} (r : Result Answer E) where
 
 -- ---- what is told
 
-read-told : (terms : Terms) (word : Text) (Next : Pattern → Answer → Type 0) → ((p : Pattern) (a : Answer) → Next p a → IsTellable (universe_of p) a)
-    → (a : Answer) → ReadThen terms word Next a → IsTellable terms.universe a
-read-told terms word Next tells _ (refused h) = tt
-read-told terms word Next tells a (read is h) = subst (λ u. IsTellable u a) is.parsed.1.pattern.universe (tells _ a h)
+read-told : (grammar : Grammar) (terms : Terms) (word : Text) (Next : Pattern → Answer → Type 0) → ((p : Pattern) (a : Answer) → Next p a → IsTellable (universe_of p) a)
+    → (a : Answer) → ReadThen grammar terms word Next a → IsTellable terms.universe a
+read-told grammar terms word Next tells _ (refused h) = tt
+read-told grammar terms word Next tells a (read is h) = subst (λ u. IsTellable u a) (universe-read grammar terms _ _ is) (tells _ a h)
 
-both-told : (terms : Terms) (first second : Text) (Next : Pattern → Pattern → Answer → Type 0)
-    → ((p q : Pattern) (a : Answer) → Next p q a → IsTellable (universe_of p) a) → (a : Answer) → BothReadThen terms first second Next a → IsTellable terms.universe a
-both-told terms first second Next tells _ (first_refused h) = tt
-both-told terms first second Next tells _ (first_read is (second_refused h)) = tt
-both-told terms first second Next tells a (first_read is (second_read also h)) = subst (λ u. IsTellable u a) is.parsed.1.pattern.universe (tells _ _ a h)
+both-told : (grammar : Grammar) (terms : Terms) (first second : Text) (Next : Pattern → Pattern → Answer → Type 0)
+    → ((p q : Pattern) (a : Answer) → Next p q a → IsTellable (universe_of p) a) → (a : Answer) → BothReadThen grammar terms first second Next a → IsTellable terms.universe a
+both-told grammar terms first second Next tells _ (first_refused h) = tt
+both-told grammar terms first second Next tells _ (first_read is (second_refused h)) = tt
+both-told grammar terms first second Next tells a (first_read is (second_read also h)) = subst (λ u. IsTellable u a) (universe-read grammar terms _ _ is) (tells _ _ a h)
 
 decided-told : (how : How) (a b : MarkedPattern) (given : Answer) → IsDecided how a b given → IsTellable a.universe given
 decided-told Fullmatch a b (answer.Differ d) h = h.differ.text
@@ -151,7 +159,6 @@ decided-told how a b (answer.Suggested s) h = absurd h
 decided-told how a b (answer.Cost c) h = absurd h
 decided-told how a b answer.TextTooLong h = absurd h
 decided-told how a b answer.Version h = absurd h
-decided-told how a b answer.NotAnswered h = absurd h
 
 found-told : (how : How) (groups : Bool) (p q : Pattern) (given : Answer) → AreFound how groups p q given → IsTellable (universe_of p) given
 found-told how groups p q _ (first_exceeds h) = tt
@@ -188,7 +195,6 @@ class-told mode pairs p (answer.Suggested s) h = absurd h
 class-told mode pairs p (answer.Cost c) h = tt
 class-told mode pairs p answer.TextTooLong h = tt
 class-told mode pairs p answer.Version h = tt
-class-told mode pairs p answer.NotAnswered h = tt
 
 pub verdict-told : (u : Universe) (v : Verdict) → HasTexts u v → IsVerdictOf u v
 verdict-told u (verdict.Degree d f) h = h
@@ -210,7 +216,6 @@ explained-told mode pairs p (answer.Suggested s) h = absurd h
 explained-told mode pairs p (answer.Cost c) h = tt
 explained-told mode pairs p answer.TextTooLong h = tt
 explained-told mode pairs p answer.Version h = tt
-explained-told mode pairs p answer.NotAnswered h = tt
 
 compared-told : (mode : Mode) (most : ℕ) (p q : Pattern) (given : Answer) → AreCompared mode most p q given → IsTellable (universe_of p) given
 compared-told mode most p q (answer.Compared c) h = are-texts (universe_of p) mode most p q c h
@@ -227,7 +232,6 @@ compared-told mode most p q (answer.Suggested s) h = absurd h
 compared-told mode most p q (answer.Cost c) h = tt
 compared-told mode most p q answer.TextTooLong h = tt
 compared-told mode most p q answer.Version h = tt
-compared-told mode most p q answer.NotAnswered h = tt
 
 suggested-told : (flags : Flags) (w : List ℕ) (pairs : ℕ) (p : Pattern) (given : Answer) → IsSuggested flags w pairs p given → IsTellable (universe_of p) given
 suggested-told flags w pairs p (answer.Suggested s) h = h.1
@@ -244,7 +248,6 @@ suggested-told flags w pairs p (answer.Found sight) h = tt
 suggested-told flags w pairs p (answer.Cost c) h = tt
 suggested-told flags w pairs p answer.TextTooLong h = tt
 suggested-told flags w pairs p answer.Version h = tt
-suggested-told flags w pairs p answer.NotAnswered h = tt
 
 tree-told : (p : Pattern) (given : Answer) → IsTree p given → IsTellable (universe_of p) given
 tree-told p (answer.Tree reply) h = h.1
@@ -261,7 +264,6 @@ tree-told p (answer.Suggested s) h = absurd h
 tree-told p (answer.Cost c) h = tt
 tree-told p answer.TextTooLong h = tt
 tree-told p answer.Version h = tt
-tree-told p answer.NotAnswered h = tt
 
 -- What is found, and costs, have no texts.
 sight-told : (mode : Mode) (m : MarkedPattern) (w : List ℕ) (advance : Bool) (i : ℕ) (u : Universe) (given : Answer) → IsSight mode m w advance i given → IsTellable u given
@@ -279,7 +281,6 @@ sight-told mode m w advance i u (answer.Suggested s) h = absurd h
 sight-told mode m w advance i u (answer.Cost c) h = tt
 sight-told mode m w advance i u answer.TextTooLong h = tt
 sight-told mode m w advance i u answer.Version h = tt
-sight-told mode m w advance i u answer.NotAnswered h = tt
 
 finds-told : (mode : Mode) (w : List ℕ) (advance : Bool) (i : ℕ) (p : Pattern) (given : Answer) → IsFoundOn mode w advance i p given → IsTellable (universe_of p) given
 finds-told mode w advance i p _ (exceeds h) = tt
@@ -300,21 +301,20 @@ cost-told mode w p (answer.Suggested s) h = absurd h
 cost-told mode w p (answer.Found sight) h = tt
 cost-told mode w p answer.TextTooLong h = tt
 cost-told mode w p answer.Version h = tt
-cost-told mode w p answer.NotAnswered h = tt
 
 cost_of-told : (terms : Terms) (pattern : Text) (mode : Mode) (w : List ℕ) (given : Answer) → IsCostOf terms pattern mode w given → IsTellable terms.universe given
 cost_of-told terms pattern mode w _ (too_long h) = tt
-cost_of-told terms pattern mode w given (counted h k) = read-told terms pattern (IsCost mode w) (cost-told mode w) given k
+cost_of-told terms pattern mode w given (counted h k) = read-told (grammar_in mode) terms pattern (IsCost mode w) (cost-told mode w) given k
 
 -- A text that a right answer tells is one of the universe.
 pub right-told : (q : Asked) (given : Answer) → IsRight q given → IsTellable (universe_asked q) given
-right-told (class pattern terms mode pairs) given h = read-told terms pattern (IsClass mode pairs) (class-told mode pairs) given h
-right-told (ways pattern terms mode pairs) given h = read-told terms pattern (IsExplained mode pairs) (explained-told mode pairs) given h
-right-told (tree pattern terms) given h = read-told terms pattern IsTree tree-told given h
-right-told (compare first second terms mode limit) given h = both-told terms first second (AreCompared mode limit) (compared-told mode limit) given h
-right-told (spans first second terms how limit groups) given h = both-told terms first second (AreFound how groups) (found-told how groups) given h
-right-told (found pattern terms mode text from advance) given h = read-told terms pattern (IsFoundOn mode (chars text) advance from) (finds-told mode (chars text) advance from) given h
-right-told (suggest pattern terms pairs) given h = read-told terms pattern (IsSuggested terms.flags (chars pattern) pairs) (suggested-told terms.flags (chars pattern) pairs) given h
+right-told (class pattern terms mode pairs) given h = read-told (grammar_in mode) terms pattern (IsClass mode pairs) (class-told mode pairs) given h
+right-told (ways pattern terms mode pairs) given h = read-told (grammar_in mode) terms pattern (IsExplained mode pairs) (explained-told mode pairs) given h
+right-told (tree pattern terms) given h = read-told (grammar_in mode.Search) terms pattern IsTree tree-told given h
+right-told (compare first second terms mode limit) given h = both-told (grammar_in mode) terms first second (AreCompared mode limit) (compared-told mode limit) given h
+right-told (spans first second terms how limit groups) given h = both-told grammar_of_finds terms first second (AreFound how groups) (found-told how groups) given h
+right-told (found pattern terms mode text from advance) given h = read-told grammar_of_finds terms pattern (IsFoundOn mode (chars text) advance from) (finds-told mode (chars text) advance from) given h
+right-told (suggest pattern terms pairs) given h = read-told Profile terms pattern (IsSuggested terms.flags (chars pattern) pairs) (suggested-told terms.flags (chars pattern) pairs) given h
 right-told (cost pattern terms mode text) given h = cost_of-told terms pattern mode (chars text) given h
-right-told (family_cost pattern terms mode heads pumps k) given h = subst (IsTellable terms.universe) (sym h) tt
+right-told (family_cost pattern terms mode heads pumps k) given h = cost_of-told terms pattern mode (family_text (family_named heads pumps) k) given h
 right-told version given h = subst (IsTellable Str) (sym h) tt

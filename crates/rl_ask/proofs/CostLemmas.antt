@@ -16,6 +16,7 @@ use Rattle.rl_machine.specs.declared.steps.Counted.{Counted}
 use Rattle.rl_asked.specs.Words.{Text}
 use Rattle.rl_asked.specs.declared.question.Terms.{Terms}
 use Rattle.rl_ask.specs.Costs.{IsCost, IsCostOf, IsTreeCost, counted}
+use Rattle.rl_ask.specs.Grammars.{grammar_in}
 use Rattle.rl_ask.specs.Patterns.{ReadThen}
 use Rattle.rl_ask.specs.Suggestions.{ExceedsFirst}
 use Rattle.rl_ask.specs.declared.answer.Answer.{Answer}
@@ -38,9 +39,9 @@ cost-so (Ok x) u t at w a stands nodes small h = subst (IsTreeCost u t at w) (sy
 cost-so (Err e) u t at w a stands nodes small h = tt
 
 pub counted-so : {E : Type 0} (r : Result Answer E) (terms : Terms) (pattern : Text) (mode : Mode) (w v : List ℕ) → w ≡ v → length w ≤ MOST_TEXT_CODES
-    → IfOk r (ReadThen terms pattern (IsCost mode w)) → IfOk r (IsCostOf terms pattern mode v)
+    → IfOk r (ReadThen (grammar_in mode) terms pattern (IsCost mode w)) → IfOk r (IsCostOf terms pattern mode v)
 counted-so r terms pattern mode w v same few h = subst (λ x. IfOk r (IsCostOf terms pattern mode x)) same (by r h)
   where
-    by : {E : Type 0} (s : Result Answer E) → IfOk s (ReadThen terms pattern (IsCost mode w)) → IfOk s (IsCostOf terms pattern mode w)
+    by : {E : Type 0} (s : Result Answer E) → IfOk s (ReadThen (grammar_in mode) terms pattern (IsCost mode w)) → IfOk s (IsCostOf terms pattern mode w)
     by (Ok found) h = counted few h
     by (Err e) h = tt

@@ -1,6 +1,7 @@
 pub mod AnswerLemmas
 pub mod CompareLemmas
 pub mod CostLemmas
+pub mod FamilyLemmas
 pub mod FoundLemmas
 pub mod Plain
 pub mod ReplyLemmas

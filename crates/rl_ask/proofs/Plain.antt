@@ -1,9 +1,10 @@
 -- An answer has no float: each part adds members without a float to members without one.
-use Rattle.std.proofs.Common.{◌≡◌, ◌∙◌, ℕ, Bool, true, false, ◌||◌, List, refl, ap, sym, Ordering, Less, Equal, Greater, nat_cmp, codes, map, Option, Some, None}
+use Rattle.std.proofs.Common.{◌≡◌, ◌∙◌, ℕ, Bool, true, false, ◌||◌, List, [], ◌∷◌, refl, ap, sym, Ordering, Less, Equal, Greater, nat_cmp, codes, map, Option, Some, None}
 use Rattle.std.specs.Cmp.Lexicographic.{slice_cmp}
 use Rattle.std.specs.Ordering.{match_ordering}
 use Rattle.std.proofs.lemmas.Bool.{false≢true, or_from}
 use Rattle.serde_json.specs.Data.{Data, Members, member, no_members, array, boolean, number, unsigned, object, string, put}
+use Rattle.serde_json.specs.View.{items_of}
 use Rattle.serde_json.specs.Written.{has_float, members_have_float}
 use Rattle.rl_json.proofs.NoFloats.{items-plain}
 use Rattle.rl_ranges.specs.declared.universe.Universe.{Universe}
@@ -19,11 +20,12 @@ use Rattle.rl_explained.specs.Replies.{pumps_of}
 use Rattle.rl_explained.proofs.Plain.{reading-plain}
 use Rattle.rl_asked.specs.Words.{Text}
 use Rattle.rl_ask.specs.Comparisons.{relation_name}
-use Rattle.rl_ask.specs.Document.{answer_members, compared_members, entry_members, error_place, fault_cause, fault_place, groups_data, least_data, match_data, most_data, named, number_data, quoted_data, refusal_members, shown_members, sight_data, span_data, spans_data, suggestion_members, value_data, which_members}
+use Rattle.rl_ask.specs.Document.{answer_members, beyond_members, compared_members, entry_members, error_place, fault_cause, fault_place, groups_data, least_data, match_data, most_data, named, number_data, quoted_data, refusal_members, shown_members, sight_data, span_data, spans_data, suggestion_members, value_data, which_members}
 use Rattle.rl_ask.specs.declared.answer.Answer.{Answer}
 use Rattle.rl_ask.specs.declared.answer.Answer.TheVariants as answer
 use Rattle.rl_ask.specs.declared.answer.Fault.{Fault}
 use Rattle.rl_ask.specs.declared.answer.Which.{Which}
+use Rattle.rl_ask.specs.declared.beyond.Beyond.{Beyond}
 use Rattle.rl_ask.specs.declared.answer.Which.TheVariants as which
 
 not-left : (b c : Bool) → (b || c) ≡ false → b ≡ false
@@ -144,4 +146,17 @@ answer-plain universe most (answer.Suggested s) =
 answer-plain universe most (answer.Cost c) = refl
 answer-plain universe most answer.TextTooLong = refl
 answer-plain universe most answer.Version = refl
-answer-plain universe most answer.NotAnswered = refl
+
+-- What is told beside an answer has no float either.
+beyond-plain : (told : Beyond) (ms : Members) → members_have_float ms ≡ false → members_have_float (beyond_members told ms) ≡ false
+beyond-plain told ms h = by told.lookaround told.inner_anchor
+  where
+    by : (lookaround anchor : Bool)
+        → members_have_float (beyond_members (record { lookaround = lookaround; inner_anchor = anchor }) ms) ≡ false
+    by true true = put-plain (codes "beyond") (array (items_of (map string (codes "lookaround" ∷ codes "inner-anchor" ∷ [])))) ms refl h
+    by true false = put-plain (codes "beyond") (array (items_of (map string (codes "lookaround" ∷ [])))) ms refl h
+    by false true = put-plain (codes "beyond") (array (items_of (map string (codes "inner-anchor" ∷ [])))) ms refl h
+    by false false = h
+
+pub told-plain : (universe : Universe) (most : ℕ) (told : Beyond) (found : Answer) → has_float (object (beyond_members told (answer_members universe most found))) ≡ false
+told-plain universe most told found = beyond-plain told (answer_members universe most found) (answer-plain universe most found)

@@ -33,7 +33,7 @@ ok-is (Err e) text P is h = tt
 
 pub value-answered : {E : Type 0} (r : Result Text E) (d : Data) (o : Result Question Mistake) (q : Question) → result_map_both asked message_of o ≡ question_read d
     → o ≡ Ok q → IfOk r (AnswersWell (asked q)) → IfOk r (IsReplyTo d)
-value-answered (Ok line) d o q read is well = subst (IsReplyTo d) (sym well.is) (answered well.found (sym read ∙ ap (result_map_both asked message_of) is) well.right)
+value-answered (Ok line) d o q read is well = subst (IsReplyTo d) (sym well.is) (answered well.found well.beyond (sym read ∙ ap (result_map_both asked message_of) is) well.right well.told)
 value-answered (Err e) d o q read is well = tt
 
 pub value-mistaken : {E : Type 0} (r : Result Text E) (d : Data) (o : Result Question Mistake) (m : Mistake) → result_map_both asked message_of o ≡ question_read d

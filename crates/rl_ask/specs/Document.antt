@@ -37,6 +37,7 @@ use Rattle.rl_ask.specs.declared.answer.Fault.{Fault}
 use Rattle.rl_ask.specs.declared.answer.Fault.TheVariants as fault
 use Rattle.rl_ask.specs.declared.answer.Which.{Which}
 use Rattle.rl_ask.specs.declared.answer.Which.TheVariants as which
+use Rattle.rl_ask.specs.declared.beyond.Beyond.{Beyond}
 use Rattle.rl_ask.specs.declared.limits.TheConstants.{MOST_TEXT_CODES}
 
 -- ---- parts
@@ -227,12 +228,25 @@ answer_members universe most (answer.Suggested s) = suggestion_members universe 
 answer_members universe most (answer.Cost c) = cost_members c
 answer_members universe most answer.TextTooLong = error_members (codes "text over " ++ (decimal MOST_TEXT_CODES ++ codes " codes"))
 answer_members universe most answer.Version = version_members
-answer_members universe most answer.NotAnswered = error_members (codes "questions of this kind aren't answered")
 
--- An answer as a value: the reply that is handed on, or an object.
-abbrev pub answer_data : Universe → ℕ → Answer → Data
-answer_data universe most (answer.Tree reply) = view reply
-answer_data universe most given = object (answer_members universe most given)
+-- The names of what is told beside an answer.
+abbrev pub beyond_names : Beyond → List Text
+beyond_names told =
+    (if told.lookaround then codes "lookaround" ∷ [] else []) ++ (if told.inner_anchor then codes "inner-anchor" ∷ [] else [])
+
+-- Names as a list, if there are some.
+abbrev pub names_data : List Text → Option Data
+names_data [] = None
+names_data (name ∷ names) = Some (array (items_of (map string (name ∷ names))))
+
+-- Adds what is told beside an answer, at the key `beyond`.
+abbrev pub beyond_members : Beyond → Members → Members
+beyond_members told ms = put_some (codes "beyond") (λ names. names) (names_data (beyond_names told)) ms
+
+-- An answer as a value, with what is told beside it: the reply that is handed on, or an object.
+abbrev pub answer_data : Universe → ℕ → Beyond → Answer → Data
+answer_data universe most told (answer.Tree reply) = view reply
+answer_data universe most told given = object (beyond_members told (answer_members universe most given))
 
 -- ---- lines
 
@@ -262,9 +276,9 @@ limit_of _ = 0
 abbrev pub line_text : Data → Text
 line_text value = compact_text value ++ codes "\n"
 
--- The line of an answer to a question.
-abbrev pub reply_text : Asked → Answer → Text
-reply_text q given = line_text (answer_data (universe_of q) (limit_of q) given)
+-- The line of an answer to a question, with what is told beside it.
+abbrev pub reply_text : Asked → Beyond → Answer → Text
+reply_text q told given = line_text (answer_data (universe_of q) (limit_of q) told given)
 
 -- The line that says why there is no answer.
 abbrev pub error_text : Text → Text

@@ -1,4 +1,5 @@
 pub mod Ungrouped
+pub mod Grammars
 pub mod Patterns
 pub mod Verdicts
 pub mod Comparisons
@@ -9,6 +10,7 @@ pub mod Costs
 pub mod Trees
 pub mod Explanations
 pub mod Answers
+pub mod Beyond
 pub mod Sights
 pub mod Document
 pub mod Sinks

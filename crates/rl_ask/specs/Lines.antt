@@ -9,17 +9,20 @@ use Rattle.rl_asked.specs.Questions.{Asked}
 use Rattle.rl_asked.specs.Reading.{question_read}
 use Rattle.rl_asked.specs.Words.{Text}
 use Rattle.rl_ask.specs.Answers.{IsRight}
+use Rattle.rl_ask.specs.Beyond.{IsTold}
 use Rattle.rl_ask.specs.Document.{error_text, reply_text}
 use Rattle.rl_ask.specs.declared.answer.Answer.{Answer}
+use Rattle.rl_ask.specs.declared.beyond.Beyond.{Beyond}
 use Rattle.rl_ask.specs.declared.limits.TheConstants.{MOST_LINE_BYTES}
 
 -- ---- one line
 
 -- Holds if the text is a right reply to the value: the message on why it asks no question, or the line of a right answer to its
--- question.
+-- question, with what is told of its patterns beside it.
 pub data IsReplyTo (d : Data) : Text → Type 0 where
   mistaken : {message : Text} → question_read d ≡ Err message → IsReplyTo d (error_text message)
-  answered : {q : Asked} (given : Answer) → question_read d ≡ Ok q → IsRight q given → IsReplyTo d (reply_text q given)
+  answered : {q : Asked} (given : Answer) (told : Beyond) → question_read d ≡ Ok q → IsRight q given → IsTold q given told
+      → IsReplyTo d (reply_text q told given)
 
 -- Whether the line has more than `MOST_LINE_BYTES` bytes. Its line feed, if it has one, isn't counted.
 abbrev pub is_over : Text → Bool

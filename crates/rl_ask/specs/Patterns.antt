@@ -1,13 +1,13 @@
 -- Patterns: how a text is read as a pattern, and what a pattern is with its groups or without them. A text is given by its
 -- bytes in UTF-8; its characters are the codes of the pattern. The terms of a question say under which flags, and in which
--- universe, its patterns are read: the universe is the codes of bytes patterns or of text patterns.
+-- universe, its patterns are read: the universe is the codes of bytes patterns or of text patterns. The grammar of a question
+-- says what of its patterns is read (`Grammars.antt`).
 use Rattle.std.specs.Prelude.{◌≡◌, ◌≢◌, ◌<◌, Bool, Ok, Err, if◌then◌else◌}
 use Rattle.std.specs.Str.{chars}
 use Rattle.rl_ranges.specs.Text.{IsText}
 use Rattle.rl_syntax.specs.Pattern.{body_of, trail_of, universe_of}
 use Rattle.rl_syntax.specs.declared.pattern.Pattern.{Pattern}
 use Rattle.rl_syntax.specs.declared.limits.TheConstants.{MOST_NODES}
-use Rattle.rl_pattern.specs.Parsed.{IsParsed}
 use Rattle.rl_pattern.specs.declared.parsing.PatError.TheVariants as error
 use Rattle.rl_marks.specs.Marked.{Marked, marked_of, nodes}
 use Rattle.rl_marks.specs.Marking.{groups_in, pattern_marked}
@@ -15,6 +15,7 @@ use Rattle.rl_marks.specs.declared.limits.TheConstants.{MOST_GROUPS}
 use Rattle.rl_marks.specs.declared.pattern.MarkedPattern.{MarkedPattern}
 use Rattle.rl_asked.specs.Words.{Text}
 use Rattle.rl_asked.specs.declared.question.Terms.{Terms}
+use Rattle.rl_ask.specs.Grammars.{IsParsedIn}
 use Rattle.rl_ask.specs.Ungrouped.{ungrouped}
 use Rattle.rl_ask.specs.declared.answer.Answer.{Answer}
 use Rattle.rl_ask.specs.declared.answer.Answer.TheVariants as answer
@@ -23,39 +24,40 @@ use Rattle.rl_ask.specs.declared.answer.Fault.TheVariants as fault
 use Rattle.rl_ask.specs.declared.answer.Limit.{Limit}
 use Rattle.rl_ask.specs.declared.answer.Limit.TheVariants as limit
 use Rattle.rl_ask.specs.declared.answer.Which.TheVariants as which
+use Rattle.rl_ask.specs.declared.grammar.Grammar.{Grammar}
 
 -- ---- reading
 
--- Holds if each character of the text is a code of the universe, and the reader of patterns reads the text as the pattern `p`.
-pub record IsReadAs (terms : Terms) (word : Text) (p : Pattern) : Type 0 where
+-- Holds if each character of the text is a code of the universe, and the grammar reads the text as the pattern `p`.
+pub record IsReadAs (grammar : Grammar) (terms : Terms) (word : Text) (p : Pattern) : Type 0 where
   pub text : IsText terms.universe (chars word)
-  pub parsed : IsParsed terms.flags terms.universe (chars word) (Ok p)
+  pub parsed : IsParsedIn grammar terms.flags terms.universe (chars word) (Ok p)
 
--- Holds if the text is refused for the fault: it has a character above U+00FF and is to be a bytes pattern, or the reader of
--- patterns refuses it. That memory ran out is no fault.
-abbrev pub IsRefusedFor : Terms → Text → Fault → Type 0
-IsRefusedFor terms word fault.NotBytes = IsText terms.universe (chars word) → ⊥
-IsRefusedFor terms word (fault.Pattern e) =
-    IsText terms.universe (chars word) × IsParsed terms.flags terms.universe (chars word) (Err e) × (e ≢ error.OutOfMemory)
+-- Holds if the text is refused for the fault: it has a character above U+00FF and is to be a bytes pattern, or the
+-- grammar refuses it. That memory ran out is no fault.
+abbrev pub IsRefusedFor : Grammar → Terms → Text → Fault → Type 0
+IsRefusedFor grammar terms word fault.NotBytes = IsText terms.universe (chars word) → ⊥
+IsRefusedFor grammar terms word (fault.Pattern e) =
+    IsText terms.universe (chars word) × IsParsedIn grammar terms.flags terms.universe (chars word) (Err e) × (e ≢ error.OutOfMemory)
 
 -- Holds if the answer says that the only text is refused, with the fault, or if the text is read as a pattern for which `Next`
 -- holds of the answer.
-pub data ReadThen (terms : Terms) (word : Text) (Next : Pattern → Answer → Type 0) : Answer → Type 0 where
-  refused : {f : Fault} → IsRefusedFor terms word f → ReadThen terms word Next (answer.Refused which.Only f)
-  read : {p : Pattern} {found : Answer} → IsReadAs terms word p → Next p found → ReadThen terms word Next found
+pub data ReadThen (grammar : Grammar) (terms : Terms) (word : Text) (Next : Pattern → Answer → Type 0) : Answer → Type 0 where
+  refused : {f : Fault} → IsRefusedFor grammar terms word f → ReadThen grammar terms word Next (answer.Refused which.Only f)
+  read : {p : Pattern} {found : Answer} → IsReadAs grammar terms word p → Next p found → ReadThen grammar terms word Next found
 
 -- Holds if the answer says that the second text is refused, with the fault, or if the text is read as a pattern for which
 -- `Next` holds of the answer.
-pub data SecondReadThen (terms : Terms) (second : Text) (Next : Pattern → Answer → Type 0) : Answer → Type 0 where
-  second_refused : {f : Fault} → IsRefusedFor terms second f → SecondReadThen terms second Next (answer.Refused which.Second f)
-  second_read : {q : Pattern} {found : Answer} → IsReadAs terms second q → Next q found → SecondReadThen terms second Next found
+pub data SecondReadThen (grammar : Grammar) (terms : Terms) (second : Text) (Next : Pattern → Answer → Type 0) : Answer → Type 0 where
+  second_refused : {f : Fault} → IsRefusedFor grammar terms second f → SecondReadThen grammar terms second Next (answer.Refused which.Second f)
+  second_read : {q : Pattern} {found : Answer} → IsReadAs grammar terms second q → Next q found → SecondReadThen grammar terms second Next found
 
 -- Holds if the answer says that the first text is refused, with the fault, or if the first text is read as a pattern, and the
 -- answer says that the second text is refused, or both are read as patterns for which `Next` holds of the answer.
-pub data BothReadThen (terms : Terms) (first second : Text) (Next : Pattern → Pattern → Answer → Type 0) : Answer → Type 0 where
-  first_refused : {f : Fault} → IsRefusedFor terms first f → BothReadThen terms first second Next (answer.Refused which.First f)
-  first_read : {p : Pattern} {found : Answer} → IsReadAs terms first p → SecondReadThen terms second (Next p) found
-      → BothReadThen terms first second Next found
+pub data BothReadThen (grammar : Grammar) (terms : Terms) (first second : Text) (Next : Pattern → Pattern → Answer → Type 0) : Answer → Type 0 where
+  first_refused : {f : Fault} → IsRefusedFor grammar terms first f → BothReadThen grammar terms first second Next (answer.Refused which.First f)
+  first_read : {p : Pattern} {found : Answer} → IsReadAs grammar terms first p → SecondReadThen grammar terms second (Next p) found
+      → BothReadThen grammar terms first second Next found
 
 -- ---- groups
 

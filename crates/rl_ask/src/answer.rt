@@ -90,6 +90,4 @@ pub enum Answer {
     TextTooLong,
     /// The version and the questions that are answered.
     Version,
-    /// Questions of this kind aren't answered.
-    NotAnswered,
 }

@@ -83,7 +83,14 @@ pub fn answer_to(alloc: Global, question: Question) -> Result<Answer, OutOfMemor
             mode,
             text,
         } => cost_answer(alloc, pattern, terms, mode, text),
-        Question::CostOfFamily { .. } => family_answer(),
+        Question::CostOfFamily {
+            pattern,
+            terms,
+            mode,
+            heads,
+            pumps,
+            k,
+        } => family_answer(alloc, pattern, terms, mode, heads, pumps, k),
         Question::Version => Ok(Answer::Version),
     }
 }

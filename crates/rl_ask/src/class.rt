@@ -6,10 +6,12 @@ ghost use Rattle.rl_pairs.specs.RightVerdict.{RightVerdict};
 ghost use Rattle.rl_report.specs.Verdicts.{IsVerdictOf};
 ghost use Rattle.rl_asked.specs.Questions.{IsBetween};
 ghost use Rattle.rl_asked.specs.declared.limits.TheConstants.{LEAST_LIMIT, MOST_PAIRS};
+ghost use Rattle.rl_ask.specs.Grammars.{grammar_in};
 ghost use Rattle.rl_ask.specs.Patterns.{ReadThen};
 ghost use Rattle.rl_ask.specs.Verdicts.{AreBounds, HasNone, IsClass, verdict_question};
 
 use crate::answer::{Answer, Which};
+use crate::grammar::grammar_in;
 use crate::patterns::{PatternRead, read_pattern};
 use rl_asked::Terms;
 use rl_growth::classify;
@@ -95,9 +97,9 @@ pub(crate) fn class_answer(
     pairs: u32,
 ) -> Result<Answer, OutOfMemory>
     requires pairs { IsBetween LEAST_LIMIT MOST_PAIRS pairs }
-    ensures { IfOk result (ReadThen terms pattern.now (IsClass mode pairs)) }
+    ensures { IfOk result (ReadThen (grammar_in mode) terms pattern.now (IsClass mode pairs)) }
 {
-    match read_pattern(alloc, pattern, terms)? {
+    match read_pattern(alloc, pattern, terms, grammar_in(mode))? {
         PatternRead::Refused(fault) => Ok(Answer::Refused {
             which: Which::Only,
             fault,

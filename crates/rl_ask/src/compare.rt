@@ -8,10 +8,12 @@ ghost use Rattle.rl_compare.specs.Exceeded.{IsCompareExceeded};
 ghost use Rattle.rl_asked.specs.Questions.{IsBetween};
 ghost use Rattle.rl_asked.specs.declared.limits.TheConstants.{LEAST_LIMIT, MOST_COMPARE_LIMIT};
 ghost use Rattle.rl_ask.specs.Comparisons.{AreCompared, IsComparison, matched_in};
+ghost use Rattle.rl_ask.specs.Grammars.{grammar_in};
 ghost use Rattle.rl_ask.specs.Patterns.{BothReadThen, SecondReadThen};
 ghost use Rattle.rl_ask.specs.internal.Sizes.{ExceedsSize};
 
 use crate::answer::{Answer, Limit, Which};
+use crate::grammar::grammar_in;
 use crate::patterns::{PatternRead, read_pattern};
 use rl_asked::Terms;
 use rl_compare::{CompareError, Compared, compare};
@@ -92,9 +94,9 @@ fn second_compared(
 ) -> Result<Answer, OutOfMemory>
     requires universe { universe_of first.now ≡ terms.universe }
     requires limit { IsBetween LEAST_LIMIT MOST_COMPARE_LIMIT limit }
-    ensures { IfOk result (SecondReadThen terms second.now (AreCompared mode limit first.now)) }
+    ensures { IfOk result (SecondReadThen (grammar_in mode) terms second.now (AreCompared mode limit first.now)) }
 {
-    match read_pattern(alloc, second, terms)? {
+    match read_pattern(alloc, second, terms, grammar_in(mode))? {
         PatternRead::Refused(fault) => Ok(Answer::Refused {
             which: Which::Second,
             fault,
@@ -120,9 +122,9 @@ pub(crate) fn compare_answer(
     limit: u32,
 ) -> Result<Answer, OutOfMemory>
     requires limit { IsBetween LEAST_LIMIT MOST_COMPARE_LIMIT limit }
-    ensures { IfOk result (BothReadThen terms first.now second.now (AreCompared mode limit)) }
+    ensures { IfOk result (BothReadThen (grammar_in mode) terms first.now second.now (AreCompared mode limit)) }
 {
-    match read_pattern(alloc, first, terms)? {
+    match read_pattern(alloc, first, terms, grammar_in(mode))? {
         PatternRead::Refused(fault) => Ok(Answer::Refused {
             which: Which::First,
             fault,

@@ -1,8 +1,10 @@
 //! How questions `cost` are answered: by the number of steps that a match of the text takes.
 
-ghost use Rattle.std.specs.Prelude.{◌≡◌, ◌<◌, ◌≤◌, All, IfOk, Ok, length};
+ghost use Rattle.std.specs.Prelude.{◌≡◌, ◌+◌, ◌<◌, ◌≤◌, All, IfOk, length};
 ghost use Rattle.std.specs.Str.{chars};
+ghost use Rattle.serde_json.specs.View.{items_view};
 ghost use Rattle.rl_ranges.specs.Text.{IsText};
+ghost use Rattle.rl_syntax.specs.Family.{family_text};
 ghost use Rattle.rl_syntax.specs.Pattern.{universe_of};
 ghost use Rattle.rl_syntax.specs.Tree.{IsOver, Tree, size, tree_of};
 ghost use Rattle.rl_syntax.specs.declared.limits.TheConstants.{MOST_NODES};
@@ -10,12 +12,17 @@ ghost use Rattle.rl_syntax.specs.declared.re.Ending.{Ending};
 ghost use Rattle.rl_prio.specs.StandsFor.{StandsFor};
 ghost use Rattle.rl_machine.specs.Counts.{ShowsCost};
 ghost use Rattle.rl_machine.specs.declared.steps.Counted.{Counted};
-ghost use Rattle.rl_ask.specs.Costs.{IsCost, IsCostOf, IsTreeCost};
+ghost use Rattle.rl_asked.specs.Questions.{AreTexts};
+ghost use Rattle.rl_asked.specs.Values.{texts_of};
+ghost use Rattle.rl_ask.specs.Costs.{IsCost, IsCostOf, IsTreeCost, family_named};
+ghost use Rattle.rl_ask.specs.Grammars.{grammar_in};
 ghost use Rattle.rl_ask.specs.Patterns.{ReadThen};
 ghost use Rattle.rl_ask.specs.declared.answer.Answer.TheVariants as answer;
 
 use crate::answer::{Answer, Limit, Which};
 use crate::codes::codes_of;
+use crate::family::{TextError, text_for};
+use crate::grammar::grammar_in;
 use crate::limits::MOST_TEXT_CODES;
 use crate::patterns::{PatternRead, read_pattern};
 use rl_asked::Terms;
@@ -23,6 +30,7 @@ use rl_lists::{Codes, OutOfMemory};
 use rl_machine::cost;
 use rl_prio::{Prio, PrioError};
 use rl_syntax::{LowerError, Lowered, Mode, Pattern, Universe, lower};
+use serde_json::Value;
 use std::alloc::Global;
 
 /// Returns the answer for an automaton.
@@ -87,9 +95,9 @@ fn read_answer(
     text: &Codes,
 ) -> Result<Answer, OutOfMemory>
     requires text { IsText terms.universe text.now }
-    ensures { IfOk result (ReadThen terms pattern.now (IsCost mode text.now)) }
+    ensures { IfOk result (ReadThen (grammar_in mode) terms pattern.now (IsCost mode text.now)) }
 {
-    match read_pattern(alloc, pattern, terms)? {
+    match read_pattern(alloc, pattern, terms, grammar_in(mode))? {
         PatternRead::Refused(fault) => Ok(Answer::Refused {
             which: Which::Only,
             fault,
@@ -125,12 +133,31 @@ pub(crate) fn cost_answer(
     answer
 }
 
-/// Returns the answer to a question `cost` about the string of a family. It isn't answered yet.
+/// Returns the answer to a question `cost` about the string of a family.
 ///
 /// # Errors
 /// [`OutOfMemory`] if there was no memory for the answer.
-pub(crate) fn family_answer() -> Result<Answer, OutOfMemory>
-    ensures { result ≡ Ok answer.NotAnswered }
+pub(crate) fn family_answer(
+    alloc: Global,
+    pattern: &str,
+    terms: Terms,
+    mode: Mode,
+    heads: &[Value],
+    pumps: &[Value],
+    k: u32,
+) -> Result<Answer, OutOfMemory>
+    requires heads { AreTexts terms.universe (texts_of (items_view heads.now)) }
+    requires pumps { AreTexts terms.universe (texts_of (items_view pumps.now)) }
+    requires one_more { length (texts_of (items_view heads.now)) ≡ length (texts_of (items_view pumps.now)) + 1 }
+    ensures { IfOk result (IsCostOf terms pattern.now mode (family_text (family_named (texts_of (items_view heads.now)) (texts_of (items_view pumps.now))) k)) }
 {
-    Ok(Answer::NotAnswered)
+    match text_for(alloc, heads, pumps, k) {
+        Ok(text) => {
+            let answer = read_answer(alloc, pattern, terms, mode, &text);
+            drop(text);
+            answer
+        }
+        Err(TextError::TooLong) => Ok(Answer::TextTooLong),
+        Err(TextError::OutOfMemory) => Err(OutOfMemory),
+    }
 }

@@ -1,6 +1,6 @@
 //! Answers as lines of JSON. The functions named `put_..` add members to an object.
 
-ghost use Rattle.std.specs.Prelude.{◌≡◌, IfOk, IfSome, OnOk, codes};
+ghost use Rattle.std.specs.Prelude.{◌≡◌, IfOk, IfSome, OnOk, codes, option_map};
 ghost use Rattle.std.specs.String.{string_bytes};
 ghost use Rattle.serde_json.specs.Data.{no_members, object, put, string};
 ghost use Rattle.serde_json.specs.View.{members_view, view};
@@ -11,11 +11,12 @@ ghost use Rattle.rl_report.specs.Verdicts.{IsFamilyOf, IsVerdictOf, family_of};
 ghost use Rattle.rl_asked.specs.Questions.{asked};
 ghost use Rattle.rl_ask.specs.Answers.{IsTellable};
 ghost use Rattle.rl_ask.specs.Comparisons.{AreTexts, relation_name};
-ghost use Rattle.rl_ask.specs.Document.{answer_members, bound_members, bounds_members, class_members, compared_members, cost_members, difference_members, entry_members, error_members, error_text, fault_cause, fault_place, groups_data, least_data, limit_of, line_text, match_data, most_data, named, number_data, refusal_members, reply_text, shown_members, sight_data, steps_text, suggestion_members, universe_of, value_data, version_members, ways_members, which_members};
+ghost use Rattle.rl_ask.specs.Document.{answer_members, beyond_members, beyond_names, bound_members, bounds_members, class_members, compared_members, cost_members, difference_members, entry_members, error_members, error_text, fault_cause, fault_place, groups_data, least_data, limit_of, line_text, match_data, most_data, named, names_data, number_data, refusal_members, reply_text, shown_members, sight_data, steps_text, suggestion_members, universe_of, value_data, version_members, ways_members, which_members};
 ghost use Rattle.rl_ask.specs.Sights.{limit_text};
 ghost use Rattle.rl_ask.specs.Verdicts.{IsLeastOf, least_family};
 
 use crate::answer::{Answer, Difference, Fault, Limit, Which};
+use crate::beyond::Beyond;
 use crate::limits::MOST_TEXT_CODES;
 use crate::members::{
     Members, put_flag, put_number, put_quoted, put_some_number, put_some_quoted, put_spans,
@@ -573,40 +574,64 @@ fn put_answer(
             put_error(alloc, members, message.as_str())
         }
         Answer::Version => put_version(alloc, members),
-        Answer::NotAnswered => put_error(alloc, members, "questions of this kind aren't answered"),
     }
 }
 
-/// Returns an answer as a line with an object of JSON.
+/// Returns names of what is told beside an answer as a list, if there are some.
+fn names_value(alloc: Global, told: Beyond) -> Result<Option<Value>, OutOfMemory>
+    ensures { IfOk result (λ v. option_map view v ≡ names_data (beyond_names told)) }
+{
+    match (told.lookaround, told.inner_anchor) {
+        (true, true) => Ok(Some(json!(in alloc; ["lookaround", "inner-anchor"])?)),
+        (true, false) => Ok(Some(json!(in alloc; ["lookaround"])?)),
+        (false, true) => Ok(Some(json!(in alloc; ["inner-anchor"])?)),
+        (false, false) => Ok(None),
+    }
+}
+
+/// Adds what is told beside an answer.
+fn put_beyond(alloc: Global, members: &mut Members, told: Beyond) -> Result<(), OutOfMemory>
+    ensures { OnOk result (members_view members.new.entries ≡ beyond_members told (members_view members.old.entries)) }
+{
+    match names_value(alloc, told)? {
+        Some(names) => put_value(alloc, members, "beyond", names),
+        None => Ok(()),
+    }
+}
+
+/// Returns an answer, with what is told beside it, as a line with an object of JSON.
 fn object_line(
     alloc: Global,
     universe: Universe,
     limit: u32,
+    told: Beyond,
     answer: &Answer,
 ) -> Result<Bytes, OutOfMemory>
     requires { IsTellable universe answer.now }
-    ensures { IfOk result (λ line. line ≡ line_text (object (answer_members universe limit answer.now))) }
+    ensures { IfOk result (λ line. line ≡ line_text (object (beyond_members told (answer_members universe limit answer.now)))) }
 {
     let mut members = Map::new(alloc);
     put_answer(alloc, &mut members, universe, limit, answer)?;
+    put_beyond(alloc, &mut members, told)?;
     line_of(alloc, &Value::Object(members))
 }
 
-/// Returns an answer as a line of JSON, with its line feed.
+/// Returns an answer, with what is told beside it, as a line of JSON, with its line feed.
 ///
 /// # Errors
 /// [`OutOfMemory`] if there was no memory for it.
 pub(crate) fn reply_line(
     alloc: Global,
     question: Question,
+    told: Beyond,
     answer: &Answer,
 ) -> Result<Bytes, OutOfMemory>
     requires { IsTellable (universe_of (asked question)) answer.now }
-    ensures { IfOk result (λ line. line ≡ reply_text (asked question.entry) answer.now) }
+    ensures { IfOk result (λ line. line ≡ reply_text (asked question.entry) told answer.now) }
 {
     match answer {
         Answer::Tree(reply) => line_of(alloc, reply),
-        _ => object_line(alloc, universe_of(question), limit_of(question), answer),
+        _ => object_line(alloc, universe_of(question), limit_of(question), told, answer),
     }
 }
 

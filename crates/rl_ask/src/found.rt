@@ -6,10 +6,12 @@ ghost use Rattle.rl_syntax.specs.declared.re.Mode.TheVariants.{Search};
 ghost use Rattle.rl_spans.specs.Limits.{IsCauseAlone};
 ghost use Rattle.rl_spans.specs.Sights.{sight_of};
 ghost use Rattle.rl_ask.specs.Finds.{IsFoundOn, IsSight, found_as};
+ghost use Rattle.rl_ask.specs.Grammars.{grammar_of_finds};
 ghost use Rattle.rl_ask.specs.Patterns.{ReadThen};
 
 use crate::answer::{Answer, Limit, Which};
 use crate::codes::codes_of;
+use crate::grammar::grammar_of_finds;
 use crate::patterns::{MarkedRead, PatternRead, mark_pattern, read_pattern};
 use crate::spans::limit_of;
 use rl_asked::Terms;
@@ -129,9 +131,9 @@ pub(crate) fn found_answer(
     asking: Asking,
 ) -> Result<Answer, OutOfMemory>
     requires within { asking.from ≤ length (chars text.now) }
-    ensures { IfOk result (ReadThen terms pattern.now (IsFoundOn asking.mode (chars text.now) asking.advance asking.from)) }
+    ensures { IfOk result (ReadThen grammar_of_finds terms pattern.now (IsFoundOn asking.mode (chars text.now) asking.advance asking.from)) }
 {
-    match read_pattern(alloc, pattern, terms)? {
+    match read_pattern(alloc, pattern, terms, grammar_of_finds())? {
         PatternRead::Refused(fault) => Ok(Answer::Refused {
             which: Which::Only,
             fault,

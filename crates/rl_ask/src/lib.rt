@@ -12,12 +12,11 @@
 //! | `found` | the match that a pattern finds on a text |
 //! | `tree` | the parts of a pattern: its tree, with the places of its parts, and the letters of its sets |
 //! | `suggest` | what can be left out of a pattern |
-//! | `cost` | how many steps a match of a text takes |
+//! | `cost` | how many steps a match of a text, or of the string of a family, takes |
 //! | `version` | the version, and the questions that are answered |
 //!
 //! A pattern that isn't read is refused, with the cause and the position that reports have for it, or with the cause `not-bytes`
-//! if it has a character above U+00FF and is to be a bytes pattern. Questions about the cost of a family are read, and get the
-//! reply that questions of this kind aren't answered.
+//! if it has a character above U+00FF and is to be a bytes pattern.
 //!
 //! # What is proved
 //!
@@ -44,12 +43,15 @@
 
 pub mod answer;
 mod answering;
+pub mod beyond;
 mod class;
 mod codes;
 mod compare;
 mod cost;
 mod document;
+mod family;
 mod found;
+pub mod grammar;
 mod limits;
 mod members;
 mod messages;
@@ -66,6 +68,8 @@ mod ways;
 
 pub use answer::{Answer, Difference, Fault, Limit, Which};
 pub use answering::answer_to;
+pub use beyond::Beyond;
+pub use grammar::Grammar;
 pub use limits::{MOST_LINE_BYTES, MOST_TEXT_CODES, limits_are};
 pub use run::ask_main;
 pub use version::VERSION;

@@ -8,11 +8,12 @@ ghost use Rattle.rl_ask.specs.internal.Reads.{IsMarkedRead, IsPatternRead};
 
 use crate::answer::{Fault, Limit};
 use crate::codes::{codes_of, is_text};
+use crate::grammar::{Grammar, parse_in};
 use crate::ungrouped::without_groups;
 use rl_asked::Terms;
 use rl_lists::OutOfMemory;
 use rl_marks::{MarkError, MarkedPattern};
-use rl_pattern::{PatError, parse};
+use rl_pattern::PatError;
 use rl_syntax::Pattern;
 use std::alloc::Global;
 
@@ -47,7 +48,7 @@ fn refusal(error: PatError) -> Result<PatternRead, OutOfMemory>
     }
 }
 
-/// Reads a text as a pattern.
+/// Reads a text as a pattern, by the grammar.
 ///
 /// # Errors
 /// [`OutOfMemory`] if there was no memory for the pattern.
@@ -55,14 +56,15 @@ pub(crate) fn read_pattern(
     alloc: Global,
     word: &str,
     terms: Terms,
+    grammar: Grammar,
 ) -> Result<PatternRead, OutOfMemory>
-    ensures { IfOk result (IsPatternRead terms word.now) }
+    ensures { IfOk result (IsPatternRead grammar terms word.now) }
 {
     let codes = codes_of(alloc, word)?;
     if !is_text(terms.universe, codes.as_slice()) {
         return Ok(PatternRead::Refused(Fault::NotBytes));
     }
-    match parse(alloc, &codes, terms.flags, terms.universe) {
+    match parse_in(alloc, &codes, terms, grammar) {
         Ok(pattern) => Ok(PatternRead::Read(pattern)),
         Err(error) => refusal(error),
     }

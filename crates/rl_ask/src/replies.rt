@@ -7,13 +7,16 @@ ghost use Rattle.std.specs.String.{string_bytes};
 ghost use Rattle.serde_json.specs.Read.{read};
 ghost use Rattle.serde_json.specs.View.{view};
 ghost use Rattle.rl_asked.specs.Questions.{IsAskable, asked, message_of};
+ghost use Rattle.rl_ask.specs.Answers.{IsRight};
 ghost use Rattle.rl_ask.specs.Document.{error_text};
 ghost use Rattle.rl_ask.specs.Lines.{IsReply, IsReplyTo, is_over};
 ghost use Rattle.rl_ask.specs.Sinks.{sink_change};
 ghost use Rattle.rl_ask.specs.internal.Replied.{AnswersWell, RepliesUntil, reply_bytes};
 ghost use Rattle.rl_ask.specs.declared.limits.TheConstants.{MOST_LINE_BYTES};
 
+use crate::answer::Answer;
 use crate::answering::answer_to;
+use crate::beyond::beyond_told;
 use crate::document::{error_line, reply_line};
 use crate::limits::MOST_LINE_BYTES;
 use rl_asked::{Mistake, Question, question_of};
@@ -57,13 +60,22 @@ pub(crate) enum RepliesEnd {
     OutOfMemory,
 }
 
+/// Returns the line of a right answer to a question, with what is told of the question's patterns beside it.
+fn told_line(alloc: Global, question: Question, answer: &Answer) -> Result<Bytes, OutOfMemory>
+    requires right { IsRight (asked question) answer.now }
+    ensures { IfOk result (AnswersWell (asked question.entry)) }
+{
+    let told = beyond_told(alloc, question, answer)?;
+    reply_line(alloc, question, told, answer)
+}
+
 /// Returns the line of the answer to a question, with its line feed.
 fn answer_line(alloc: Global, question: Question) -> Result<Bytes, OutOfMemory>
     requires { IsAskable (asked question) }
     ensures { IfOk result (AnswersWell (asked question.entry)) }
 {
     let answer = answer_to(alloc, question)?;
-    let line = reply_line(alloc, question, &answer);
+    let line = told_line(alloc, question, &answer);
     drop(answer);
     line
 }

@@ -3,11 +3,13 @@
 ghost use Rattle.std.specs.Prelude.{◌≡◌, ◌<◌, ◌^◌, IfErr, IfOk, length};
 ghost use Rattle.rl_spans.specs.Answers.{DifferOn};
 ghost use Rattle.rl_spans.specs.Limits.{IsCause};
+ghost use Rattle.rl_ask.specs.Grammars.{grammar_of_finds};
 ghost use Rattle.rl_ask.specs.Patterns.{BothReadThen, SecondReadThen};
 ghost use Rattle.rl_ask.specs.Spans.{AreFound, IsDecided, IsFoundWith, Shows};
 ghost use Rattle.rl_ask.specs.internal.Limits.{limit_named};
 
 use crate::answer::{Answer, Difference, Limit, Which};
+use crate::grammar::grammar_of_finds;
 use crate::patterns::{MarkedRead, PatternRead, mark_pattern, read_pattern};
 use rl_asked::Terms;
 use rl_lists::{Codes, OutOfMemory};
@@ -162,9 +164,9 @@ fn second_read(
     terms: Terms,
     comparing: Comparing,
 ) -> Result<Answer, OutOfMemory>
-    ensures { IfOk result (SecondReadThen terms second.now (AreFound comparing.how comparing.groups first.now)) }
+    ensures { IfOk result (SecondReadThen grammar_of_finds terms second.now (AreFound comparing.how comparing.groups first.now)) }
 {
-    match read_pattern(alloc, second, terms)? {
+    match read_pattern(alloc, second, terms, grammar_of_finds())? {
         PatternRead::Refused(fault) => Ok(Answer::Refused {
             which: Which::Second,
             fault,
@@ -188,9 +190,9 @@ pub(crate) fn spans_answer(
     terms: Terms,
     comparing: Comparing,
 ) -> Result<Answer, OutOfMemory>
-    ensures { IfOk result (BothReadThen terms first.now second.now (AreFound comparing.how comparing.groups)) }
+    ensures { IfOk result (BothReadThen grammar_of_finds terms first.now second.now (AreFound comparing.how comparing.groups)) }
 {
-    match read_pattern(alloc, first, terms)? {
+    match read_pattern(alloc, first, terms, grammar_of_finds())? {
         PatternRead::Refused(fault) => Ok(Answer::Refused {
             which: Which::First,
             fault,

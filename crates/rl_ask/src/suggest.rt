@@ -11,11 +11,13 @@ ghost use Rattle.rl_rewrite.specs.Verdicts.{IsFirstExceeded};
 ghost use Rattle.rl_rewrite.specs.declared.suggesting.SuggestError.TheVariants as error;
 ghost use Rattle.rl_asked.specs.Questions.{IsBetween};
 ghost use Rattle.rl_asked.specs.declared.limits.TheConstants.{LEAST_LIMIT, MOST_PAIRS};
+ghost use Rattle.rl_ask.specs.declared.grammar.Grammar.TheVariants.{Profile};
 ghost use Rattle.rl_ask.specs.Patterns.{IsReadAs, ReadThen};
 ghost use Rattle.rl_ask.specs.Suggestions.{IsSuggested};
 
 use crate::answer::{Answer, Limit, Which};
 use crate::codes::codes_of;
+use crate::grammar::Grammar;
 use crate::patterns::{PatternRead, read_pattern};
 use rl_asked::Terms;
 use rl_lists::OutOfMemory;
@@ -32,7 +34,7 @@ fn suggestion_for(
     terms: Terms,
     pairs: u32,
 ) -> Result<Suggestion, SuggestError>
-    requires read { IsReadAs terms word.now pattern.now }
+    requires read { IsReadAs Profile terms word.now pattern.now }
     requires pairs { IsBetween LEAST_LIMIT MOST_PAIRS pairs }
     ensures right { IfOk result (IsRightSuggestion terms.flags pattern.now (chars word.now) pairs) }
     ensures texts { IfOk result (λ s. IfSome s.text (IsText (universe_of pattern.now))) }
@@ -53,7 +55,7 @@ fn pattern_answer(
     terms: Terms,
     pairs: u32,
 ) -> Result<Answer, OutOfMemory>
-    requires read { IsReadAs terms word.now pattern.now }
+    requires read { IsReadAs Profile terms word.now pattern.now }
     requires pairs { IsBetween LEAST_LIMIT MOST_PAIRS pairs }
     ensures { IfOk result (IsSuggested terms.flags (chars word.now) pairs pattern.now) }
 {
@@ -79,9 +81,9 @@ pub(crate) fn suggest_answer(
     pairs: u32,
 ) -> Result<Answer, OutOfMemory>
     requires pairs { IsBetween LEAST_LIMIT MOST_PAIRS pairs }
-    ensures { IfOk result (ReadThen terms pattern.now (IsSuggested terms.flags (chars pattern.now) pairs)) }
+    ensures { IfOk result (ReadThen Profile terms pattern.now (IsSuggested terms.flags (chars pattern.now) pairs)) }
 {
-    match read_pattern(alloc, pattern, terms)? {
+    match read_pattern(alloc, pattern, terms, Grammar::Profile)? {
         PatternRead::Refused(fault) => Ok(Answer::Refused {
             which: Which::Only,
             fault,

@@ -15,7 +15,7 @@ fn tree_without_groups(alloc: Global, tree: &MarkTree) -> Result<MarkTree, OutOf
     match tree {
         MarkTree::Empty => Ok(MarkTree::Empty),
         MarkTree::One(set) => Ok(MarkTree::One(set.copy()?)),
-        MarkTree::Guard(guard) => Ok(MarkTree::Guard(*guard)),
+        MarkTree::Guard(guard) => Ok(MarkTree::Guard(guard.copy()?)),
         MarkTree::Both(first, second) => {
             let first = tree_without_groups(alloc, first)?;
             let second = tree_without_groups(alloc, second)?;

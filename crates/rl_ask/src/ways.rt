@@ -4,9 +4,11 @@ ghost use Rattle.std.specs.Prelude.{IfOk};
 ghost use Rattle.rl_asked.specs.Questions.{IsBetween};
 ghost use Rattle.rl_asked.specs.declared.limits.TheConstants.{LEAST_LIMIT, MOST_PAIRS};
 ghost use Rattle.rl_ask.specs.Explanations.{IsExplained};
+ghost use Rattle.rl_ask.specs.Grammars.{grammar_in};
 ghost use Rattle.rl_ask.specs.Patterns.{ReadThen};
 
 use crate::answer::{Answer, Which};
+use crate::grammar::grammar_in;
 use crate::patterns::{PatternRead, read_pattern};
 use rl_asked::Terms;
 use rl_lists::OutOfMemory;
@@ -40,9 +42,9 @@ pub(crate) fn ways_answer(
     pairs: u32,
 ) -> Result<Answer, OutOfMemory>
     requires pairs { IsBetween LEAST_LIMIT MOST_PAIRS pairs }
-    ensures { IfOk result (ReadThen terms pattern.now (IsExplained mode pairs)) }
+    ensures { IfOk result (ReadThen (grammar_in mode) terms pattern.now (IsExplained mode pairs)) }
 {
-    match read_pattern(alloc, pattern, terms)? {
+    match read_pattern(alloc, pattern, terms, grammar_in(mode))? {
         PatternRead::Refused(fault) => Ok(Answer::Refused {
             which: Which::Only,
             fault,

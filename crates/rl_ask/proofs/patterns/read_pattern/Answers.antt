@@ -10,10 +10,10 @@ returns-then-not-is_text c =
 
 pub returns-in-Ok : goal.returns-in-Ok
 returns-in-Ok c =
-    is-read c.args.terms c.args.word.now c.in_ok-codes.codes c.in-Ok.pattern c.in_ok-codes.ensures
+    is-read c.args.grammar c.args.terms c.args.word.now c.in_ok-codes.codes c.in-Ok.pattern c.in_ok-codes.ensures
     (subst (IsText c.args.terms.universe) c.as_slice.ensures (c.if-not-is_text.ensures.yes refl)) c.in-Ok.ensures
 
 pub returns : goal.returns
 returns c =
-    refused-so c.refusal.result c.args.terms c.args.word.now c.in_ok-codes.codes c.in-Err.error c.in_ok-codes.ensures
+    refused-so c.refusal.result c.args.grammar c.args.terms c.args.word.now c.in_ok-codes.codes c.in-Err.error c.in_ok-codes.ensures
     (subst (IsText c.args.terms.universe) c.as_slice.ensures (c.if-not-is_text.ensures.yes refl)) c.in-Err.ensures c.refusal.ensures
