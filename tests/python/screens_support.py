@@ -59,8 +59,8 @@ def cubic(**more: Any) -> Finding:
 
 def refused(cause: str = "lookaround") -> Finding:
     """A pattern that isn't judged."""
-    return Finding(Entry("app.py", "refused", Place(9, 5), "search", cause=cause, fault=Place(9, 7)), site=site("(?=ab)b", 300),
-                   lines=((9, 're.search(r"(?=ab)b", s)'),))
+    entry = Entry("app.py", "refused", Place(9, 5), "search", cause=cause, fault=Place(9, 7))
+    return Finding(entry, site=site("(?=ab)b", 300), lines=((9, 're.search(r"(?=ab)b", s)'),))
 
 
 def beyond(verdict: Verdict = EXPONENTIAL, **more: Any) -> Finding:

@@ -59,7 +59,8 @@ class Every(unittest.TestCase):
             self.assertIn("the change touches it", text)
 
     def test_what_only_relint_ask_judges_is_said_once(self) -> None:
-        said, harmless = "proved by relint-ask, beyond relint's profile", beyond(Verdict("degree", 1), state=OTHER, growth=None)
+        said = "proved by relint-ask, beyond relint's profile"
+        harmless = beyond(Verdict("degree", 1), state=OTHER, growth=None)
         # (Code Quality has a description and a body, and SARIF the page about the rule, twice)
         times = {servers.gitlab: 2, servers.sarif: 3}
         for layout in EVERY:

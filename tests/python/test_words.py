@@ -73,8 +73,8 @@ class Words(unittest.TestCase):
         self.assertIn("seen to hang: a text of 40 characters keeps this search busy for over 1 second on CPython",
                       words.danger(seen))
         by_ask = "proved by relint-ask, beyond relint's profile"
-        self.assertEqual(words.danger(beyond()), "exponential, " + by_ask + ": a text of 30 characters keeps this search busy for "
-                         "about a minute")
+        self.assertEqual(words.danger(beyond()),
+                         f"exponential, {by_ask}: a text of 30 characters keeps this search busy for about a minute")
         self.assertEqual(words.outcome(beyond(degree(1))), "linear, " + by_ask)
         open_one = replace(undecided().entry.verdict or degree(1), over=1000)
         self.assertNotIn(by_ask, words.outcome(beyond(open_one)))

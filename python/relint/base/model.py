@@ -312,8 +312,8 @@ class Seen:
 class Finding:
     """An entry of a run, with what is known of it; a field that isn't known is None or empty.
 
-    `known` is PROVED, BEYOND, ELSEWHERE or SEEN. `mode` is the mode of the use under which the class is worst or, if the uses aren't
-    known, the one in which `entry` was judged; `by_mode` has the classes in the modes that were asked. `state` is NEW,
+    `known` is PROVED, BEYOND, ELSEWHERE or SEEN. `mode` is the mode of the use under which the class is worst or, if the uses
+    aren't known, the one in which `entry` was judged; `by_mode` has the classes in the modes that were asked. `state` is NEW,
     ACCEPTED, UNUSED (no use reaches the cost), IGNORED (a comment hides it), WARNED (a lower degree that is shown too), KNOWN
     (it stands in the earlier commit already) or OTHER (no finding). `reason` is why it was accepted. `lines` are the source
     lines to show, each with its number.

@@ -353,7 +353,8 @@ def explained(topic: str) -> Optional[str]:
 
 def topics(near: str = "") -> List[str]:
     """Returns what can be explained: codes, causes and pages; with `near`, only the topics that are near to that word."""
-    every = ["RLT100", "RLT103", "RLT200", "RLT201", "RLT202", "RLT203", "RLT300", "RLT350", "RLT400", *CAUSES, *LIMITS, *pages()]
+    codes = ("RLT100", "RLT103", "RLT200", "RLT201", "RLT202", "RLT203", "RLT300", "RLT350", "RLT400")
+    every = [*codes, *CAUSES, *LIMITS, *pages()]
     if not near:
         return every
     close: List[str] = importlib.import_module("difflib").get_close_matches(near.lower(), [it.lower() for it in every], 3)

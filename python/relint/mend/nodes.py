@@ -46,8 +46,8 @@ class Node:
     """A node: a set of characters (CHARS), a condition on a place (GUARD), a ROW, a CHOICE, a REPEAT or a capturing GROUP.
 
     `most` is NO_BOUND for a repeat without a bound. `name` is that of a group, or the text of a guard; for a look it is how it
-    begins, and `mask` is the set that it looks for. `text` is how a set was written, and "" for a new one. A row isn't directly
-    in a row, nor a choice in a choice.
+    begins, and `mask` is the set that it looks for. `text` is how a set was written, and "" for a new one. A row isn't
+    directly in a row, nor a choice in a choice.
     """
 
     kind: str
