@@ -1,4 +1,4 @@
-"""Compares relint-ask with Python's own `re` on random patterns with looks of one character and anchors anywhere, for `ask`.
+"""Compares relint-ask with Python's own `re` on random patterns with looks of one character and a `$` inside, for `ask`.
 
 Each pattern has flags and is tried on a few texts. Of each pair of a pattern and a text, relint-ask is asked what `match`,
 `fullmatch` and `search` find from two places, with the groups, what each step of `finditer` finds, and by `cost` in each mode
@@ -27,7 +27,9 @@ ATOMS = ["a", "b", "a", "b", "c", ".", "[ab]", "[^a]", r"\s", r"\w", r"\W", "(?:
 LOOKED = ["a", "b", ".", "[ab]", "[^a]", r"\w", r"\s", r"\W", r"\n", "c|a", r"[bc]|\s", "(?:a)", "(?:b|c)", r"(?:a|\n)|_",
           "\u00e9", "(?s:.)", "(?i:a)", "[^\\n]"]
 LOOKS = ["(?=", "(?!", "(?<=", "(?<!"]
-ANCHORS = ["$", "$", "$", "^", r"\A", r"\Z", r"\b", r"\B", "(?m:^)", "(?m:$)", "(?-m:$)"]
+ANCHORS = ["^", r"\A", r"\Z", r"\b", r"\B", "(?m:^)", "(?m:$)"]
+# What stands at the end of a branch now and then: there relint-ask reads a `$`, unless something follows the branch.
+ENDS = ["", "", "", "", "", "", "", "$", "$", "(?-m:$)"]
 COUNTS = ["*", "+", "?", "*?", "+?", "??", "{2}", "{0,2}", "{1,2}?", "{2,}"]
 GROUPS = ["(", "(", "(?:", "(?:", "(?i:", "(?s:", "(?P<n>"]
 FLAGS = {"a": re.A, "i": re.I, "m": re.M, "s": re.S, "x": re.X}
@@ -70,7 +72,7 @@ class Maker:
 
     def look(self) -> str:
         """Returns a random look, or an anchor."""
-        if self.random.random() < 0.4:
+        if self.random.random() < 0.3:
             return self.random.choice(ANCHORS)
         return self.random.choice(LOOKS) + self.random.choice(LOOKED) + ")"
 
@@ -84,17 +86,19 @@ class Maker:
         if opening == "(?P<n>":
             self.names += 1
             opening = f"(?P<n{self.names}>"
-        whole = self.random.choice(ATOMS) if depth == 0 or kind < 0.65 else opening + self.choice(depth - 1) + ")"
+        whole = self.random.choice(ATOMS) if depth == 0 or kind < 0.75 else opening + self.choice(depth - 1) + ")"
         return whole if self.random.random() < 0.55 else whole + self.random.choice(COUNTS)
 
     def choice(self, depth: int) -> str:
         """Returns one to three random branches, with groups at most `depth` deep."""
         branches = self.random.choice([1, 1, 1, 2, 2, 3])
-        return "|".join("".join(self.piece(depth) for _ in range(self.random.randint(1, 3))) for _ in range(branches))
+        ends = ENDS if depth == self.depth or self.random.random() < 0.1 else [""]
+        return "|".join("".join(self.piece(depth) for _ in range(self.random.randint(1, 3))) + self.random.choice(ends)
+                        for _ in range(branches))
 
     def pairs(self) -> List[Pair]:
         """Returns pairs of a random pattern, which `re` may refuse, with random texts."""
-        pattern, self.names = self.choice(self.random.randint(1, self.depth)), 0
+        pattern, self.names = self.choice(self.depth), 0
         flags = "".join(it for it in "aimsx" if self.random.random() < 0.15)
         is_bytes = self.random.random() < 0.1
         return [Pair(pattern, flags, is_bytes, self.text()) for _ in range(TEXTS_A_PATTERN)]

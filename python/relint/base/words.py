@@ -45,7 +45,7 @@ CAUSES: Dict[str, str] = {
     "lookaround": "a lookahead or lookbehind of more than one character, as (?=ab)",
     "conditional": "a conditional group, as (?(1)a|b)",
     "atomic": "an atomic group, as (?>a)",
-    "inner-anchor": "a $ before the end of the pattern, without MULTILINE",
+    "inner-anchor": "a $ that something can follow, without MULTILINE",
     "not-bytes": "a bytes pattern with a character above \\xff",
     "unreadable": "the file or folder can't be read",
     "too-deep-folder": "a folder more than 64 levels below the named path",

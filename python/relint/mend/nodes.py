@@ -489,6 +489,9 @@ class _Reader(NamedTuple):
         if kind == "look":
             new = look(it["behind"], it["negated"], union(1 << letter for letter in it["letters"]))
             return replace(new, span=span if text.startswith(new.name) and text.endswith(")") else None)
+        if text == "$" and kind in ("nothing", "sequence"):
+            # (at the end of a branch, the answer has what it stands for)
+            return Node(GUARD, name="(?-m:$)" if scoped else text, span=span)
         if kind == "nothing":
             return EMPTY
         if kind in ("anchor", "boundary"):

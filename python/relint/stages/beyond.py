@@ -2,7 +2,7 @@
 
 Workers find patterns by name, in pieces, in frameworks and notebooks, and relint-ask judges them: these findings are known as
 ELSEWHERE. Of the literals that the program itself reads, relint-ask judges some that the program refuses, those with
-lookaround of one character or with a `$` inside: these are known as BEYOND.
+lookaround of one character or with a `$` at the end of a branch: these are known as BEYOND.
 """
 from __future__ import annotations
 
