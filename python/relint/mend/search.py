@@ -416,7 +416,7 @@ class Search:
             self.judged(Proposal(0, "suggestion", tree, text), (ranks[0], 0, tuple(ranks[1:])), verdicts[0], ())
 
     def stop_runs(self) -> None:
-        """Tries runs that take all that they can, by looks of one character: no digit comes before `(?<!\\d)\\d+(?!\\d)` or after."""
+        r"""Tries runs that take all that they can, by looks of one character, as in `(?<!\d)\d+(?!\d)`."""
         self.tries = 0
         every = [it for tree in self.with_looks() for it in self.proposal(STOPPED, STOPPED.cost, tree)]
         kinds = dict(zip((it.text for it in every), self.kinds([it.text for it in every])[0]))
