@@ -87,7 +87,7 @@ graph-within a t ending sets next at n stands g = record { targets = λ q l m lt
     by : (q l : ℕ) → q < n → (letters_count a < l) ⊎ (l ≤ letters_count a) → length (next q l) ≤ bound_k (measure a.table.codes t)
     by q l lt (inl big) = omega (arith, ap length (g.empty q l (inr big)))
     by q l lt (inr le) =
-        omega (arith, length-kept a at (next_pairs a (at q) l) (next q l) (g.moves q l lt le), length-from a (image a (at q).set l) (moves_at a (at q).state l), moves-short a t ending sets stands (at q).state l, moves-measured (size t) (measure a.table.codes t) (size-measure a.table.codes t))
+        omega (arith, length-kept a at (next_pairs a (at q) l) (next q l) (g.moves q l lt le), length-from a (image a (at q).set l) (moves_at a (at q).state l), moves-short a t ending sets stands (at q).state l, moves-measured (size t) (measure a.table.codes t) (size-measure t a.table.codes))
 
 pub pairs-within : (q : Question) (a : Automaton) (next : ℕ → ℕ → List ℕ) (at : ℕ → Pair) (n : ℕ) → IsMachine q a → IsPairGraph a next at n → n ≤ q.max_pairs → IsExceeded q Pairs → ⊥
 pairs-within q a next at n machine g few passed = no-more-than-states a next at n q.max_pairs g few (pairs-passed q a machine passed)
