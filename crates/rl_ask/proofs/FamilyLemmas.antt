@@ -1,16 +1,20 @@
 -- The string of a family, part by part.
-use Rattle.std.proofs.Common.{◌≡◌, ◌∙◌, ℕ, zero, suc, ◌+◌, ◌<◌, ◌≤◌, List, [], ◌∷◌, ◌++◌, length, map, take, drop, get_or, ap, ap₂, refl, sym, subst, append_assoc, append-nil, length-append, arith, unwrap_or, add-one, Bool, true, false, ◌==◌, ◌≢◌, Option, Some, None, Bor, Result, Ok, Err, IfErr, option_map}
+use Rattle.std.proofs.Common.{◌≡◌, ◌∙◌, ℕ, zero, suc, ◌+◌, ◌<◌, ◌≤◌, All, List, [], ◌∷◌, ◌++◌, length, map, ap, refl, sym, append_assoc, append-nil, length-append, arith, unwrap_or, add-one, Bool, true, ◌==◌, Option, Some, None, Bor, option_map}
 use Rattle.std.proofs.lemmas.Bool.{eqb-true}
 use Rattle.std.proofs.lemmas.List.{nil_from_length}
 use Rattle.std.proofs.lemmas.Str.{chars-nil}
-use Rattle.std.proofs.lemmas.List.{take_more, take_all, map-append}
-use Rattle.std.proofs.Math.Seq.{drop-cons}
 use Rattle.std.specs.Str.{chars}
 use Rattle.serde_json.specs.Find.{as_str}
 use Rattle.serde_json.specs.View.{items_view, view}
 use Rattle.serde_json.specs.declared.value.Value.{Value}
-use Rattle.rl_syntax.specs.Family.{copies, pumped}
+use Rattle.std.proofs.lemmas.List.Elements.{All-append, All-nil}
+use Rattle.rl_ranges.specs.Text.{IsText, code_count}
+use Rattle.rl_ranges.specs.declared.universe.Universe.{Universe}
+use Rattle.rl_syntax.specs.Family.{copies, family_text}
+use Rattle.rl_asked.specs.Questions.{AreTexts}
 use Rattle.rl_asked.specs.Values.{texts_of}
+use Rattle.rl_asked.specs.Words.{Text}
+use Rattle.rl_ask.specs.Costs.{family_named}
 use Rattle.rl_ask.specs.internal.Long.{IsLong}
 use Rattle.rl_ask.specs.declared.family.TextError.{TextError}
 use Rattle.rl_ask.specs.declared.family.TextError.TheVariants as error
@@ -64,3 +68,25 @@ copies-within i k u v w h is =
     let here : length u ≡ length v + length (copies i w) = ap length is ∙ length-append v (copies i w) in
     let more : length (copies (i + 1) w) ≡ length (copies i w) + length w = ap length (copies-more i w) ∙ length-append (copies i w) w in
     omega (arith, some, here, more, length-append u w, length-append v (copies k w))
+
+-- The first of the items of which something holds, and the rest.
+first-of : {X : Type 0} (P : X → Type 0) (x : X) (xs : List X) → All P (x ∷ xs) → P x
+first-of P x xs all = all zero x (omega arith)
+
+rest-of : {X : Type 0} (P : X → Type 0) (x : X) (xs : List X) → All P (x ∷ xs) → All P xs
+rest-of P x xs all = λ k d h. all (suc k) d (omega (arith, h))
+
+copies-text : (u : Universe) (k : ℕ) (w : List ℕ) → IsText u w → IsText u (copies k w)
+copies-text u zero w h = All-nil (λ c. c < code_count u)
+copies-text u (suc k) w h = All-append (λ c. c < code_count u) w (copies k w) h (copies-text u k w h)
+
+-- The string of a family has only codes of the universe if its heads and pumps have.
+pub family-text : (u : Universe) (k : ℕ) (heads pumps : List Text) → AreTexts u heads → AreTexts u pumps → IsText u (family_text (family_named heads pumps) k)
+family-text u k [] pumps hs ps = All-nil (λ c. c < code_count u)
+family-text u k (head ∷ heads) [] hs ps = first-of (λ text. IsText u (chars text)) head heads hs
+family-text u k (head ∷ heads) (pump ∷ pumps) hs ps =
+    let is = λ (text : Text). IsText u (chars text) in
+    let one : IsText u (chars head ++ copies k (chars pump)) =
+    All-append (λ c. c < code_count u) (chars head) (copies k (chars pump)) (first-of is head heads hs) (copies-text u k (chars pump) (first-of is pump pumps ps)) in
+    All-append (λ c. c < code_count u) (chars head ++ copies k (chars pump)) (family_text (family_named heads pumps) k) one
+    (family-text u k heads pumps (rest-of is head heads hs) (rest-of is pump pumps ps))

@@ -140,11 +140,10 @@ fn beyond_in(
 ) -> Result<Beyond, OutOfMemory>
     ensures { IfOk result (IsBeyond grammar terms word.now) }
 {
-    if is_refused(alloc, word, terms, Grammar::Profile)? {
-        beyond_profile(alloc, word, terms, grammar)
-    } else {
-        Ok(nothing_beyond())
+    if !is_refused(alloc, word, terms, Grammar::Profile)? {
+        return Ok(nothing_beyond());
     }
+    beyond_profile(alloc, word, terms, grammar)
 }
 
 /// Returns what at least one of two texts has beyond the profile, if the grammar reads it.

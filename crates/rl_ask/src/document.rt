@@ -631,7 +631,13 @@ pub(crate) fn reply_line(
 {
     match answer {
         Answer::Tree(reply) => line_of(alloc, reply),
-        _ => object_line(alloc, universe_of(question), limit_of(question), told, answer),
+        _ => object_line(
+            alloc,
+            universe_of(question),
+            limit_of(question),
+            told,
+            answer,
+        ),
     }
 }
 
