@@ -1,5 +1,5 @@
 -- What guards see of a code, and what threads try by it. Guards are anchors, word boundaries and lookarounds of one character.
-use Rattle.std.specs.Prelude.{◌≡◌, ℕ, suc, slice_index_or, Bool, true, false, not, ◌||◌, ◌&&◌, List, [], ◌∷◌, ◌++◌, if◌then◌else◌, Option, is_none}
+use Rattle.std.specs.Prelude.{◌≡◌, ℕ, suc, slice_index_or, Bool, true, false, not, ◌||◌, ◌&&◌, List, [], ◌∷◌, ◌++◌, if◌then◌else◌, is_none}
 use Rattle.std.proofs.Math.Bool.{beq}
 use Rattle.rl_ranges.specs.Codes.{has}
 use Rattle.rl_syntax.specs.declared.anchors.Guard.{Guard}
