@@ -205,13 +205,11 @@ class Use:
 class Uses:
     """The uses of a pattern. If `lost` isn't "", they aren't all known, and it says why in a clause.
 
-    `is_public` says that a name without a leading underscore holds the pattern, so that code outside may use it too, and
-    `is_read` that the code reads the pattern or its flags.
+    `is_read` says that the code reads the pattern or its flags.
     """
 
     uses: Tuple[Use, ...] = ()
     is_read: bool = False
-    is_public: bool = False
     lost: str = ""
 
 
