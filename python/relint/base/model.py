@@ -246,27 +246,30 @@ class Reading:
 
 @dataclass(frozen=True)
 class Why:
-    """Why a pattern costs what it costs: one reading for an exponential one, one for each split of a degree.
-
-    `loop` is the loop on which the longest texts go round, for a degree.
-    """
+    """Why a pattern costs what it costs: one reading for an exponential one, one for each split of a degree."""
 
     readings: Tuple[Reading, ...] = ()
-    loop: Optional[Span] = None
+
+    @property
+    def drawn(self) -> Optional[Reading]:
+        """The reading that is drawn: of an exponential pattern, or the last one of two loops, if there is one."""
+        inner = [it for it in self.readings if it.parts is not None or None not in it.loops]
+        return next(iter((inner or list(self.readings))[-1:]), None)
 
 
 @dataclass(frozen=True)
 class Growth:
-    """A text that shows the cost: text `k` of the family, its length, and its steps, counted or (`about`) worked out.
+    """A text that shows the cost: text k of a family, its length, and its steps, which were counted.
 
-    `factor` is how much the steps grow by with one pump more, for an exponential pattern.
+    `factor` is by how much the steps grow with one pump more, for an exponential pattern. `family` is None if it is that of
+    the class.
     """
 
     k: int
     length: int
     steps: int
-    about: bool = False
     factor: Optional[float] = None
+    family: Optional[Family] = None
 
 
 @dataclass(frozen=True)

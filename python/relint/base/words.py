@@ -233,12 +233,16 @@ def flag_letters(flags: Optional[int]) -> str:
     return "".join(it for it in sorted(FLAGS) if (flags or 0) & FLAGS[it]).lower()
 
 
+def root_of(text: Text) -> Text:
+    """Returns the shortest text of which this one is copies."""
+    return text[:(text + text).find(text, 1)] if text else text  # type: ignore[operator,arg-type]
+
+
 def text_code(family: Family, k: int) -> str:
     """Returns a short Python expression for text k of a family, such as `"0" * 29 + " "`."""
     parts: List[Tuple[Text, int]] = [(family.heads[0], 1)]
     for pump, head in zip(family.pumps, family.heads[1:]):
-        # (the shortest text of which the pump is copies)
-        root = pump[:(pump + pump).find(pump, 1)] if pump else pump  # type: ignore[operator,arg-type]
+        root = root_of(pump)
         count = k * (len(pump) // len(root) if root else 0)
         before, times = parts.pop()
         while root and times == 1 and before.endswith(root):  # type: ignore[arg-type]
@@ -261,7 +265,7 @@ def try_code(finding: Finding) -> str:
     if finding.seen is not None and finding.seen.family is not None:
         family, k = finding.seen.family, finding.seen.k
     elif finding.growth is not None:
-        k = finding.growth.k
+        family, k = finding.growth.family or family, finding.growth.k
     if site is None or site.flags is None or family is None or not k:
         return ""
     flags = " | ".join(f"re.{it}" for it in flag_letters(site.flags).upper())

@@ -55,10 +55,8 @@ def _shown(character: str) -> str:
 
 def drawn(finding: Finding) -> Optional[Reading]:
     """Returns the reading to draw: of an exponential pattern, or the last one of two loops; None if it is too long."""
-    readings = finding.why.readings if finding.why else ()
-    inner = [it for it in readings if it.parts is not None or None not in it.loops]
-    found = (inner or list(readings))[-1:]
-    fits = [it for it in found if 0 < len(it.text) <= MOST_COLUMNS and len(_places(it)) <= len(LETTERS)]
+    found = finding.why.drawn if finding.why is not None else None
+    fits = [it for it in [found] if it is not None and 0 < len(it.text) <= MOST_COLUMNS and len(_places(it)) <= len(LETTERS)]
     whole = [it for it in fits if {len(way) for way in it.ways} == {len(it.text)} and len(it.ways) == (3 if it.loops else 2)]
     return _short(whole[0]) if whole else None
 

@@ -85,9 +85,7 @@ def staged(run: Run) -> List[Finding]:
     findings = judged_as_used(findings, run)
     findings = tried(findings, run) if run.options.trials else findings
     findings = accepted(findings, run)
-    findings = growth.grown(findings, run)
-    findings = growth.explained(findings, run)
-    return mended(findings, run)
+    return mended(growth.told(findings, run), run)
 
 
 def summary_of(findings: Sequence[Finding], run: Run) -> Summary:
