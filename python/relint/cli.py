@@ -244,9 +244,10 @@ def accept(options: Options) -> int:
     if options.prune:
         after = accepting.pruned(before, findings, options)
     else:
+        moved = accepting.old_entries(before, findings, options)
         for it in _named(findings, options):
             try:
-                after = accepting.with_finding(after, it, reason)
+                after = accepting.with_finding(after, it, reason, next((row for one, row in moved if one is it), None))
                 put([line(f"{it.entry.path}:{it.place.line}: {accepting.class_of(it)}, accepted")])
             except accepting.AcceptError as error:
                 lost = _failed(str(error), FINDING)

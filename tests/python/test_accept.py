@@ -63,6 +63,23 @@ class Splitting(unittest.TestCase):
             os.remove("app.py")
             self.assertEqual(states([at(exponential(), "b.py"), at(exponential(), "c.py")], accepted), [ACCEPTED, NEW])
 
+    def test_a_renamed_function(self) -> None:
+        with folder({"app.py": "", "b.py": ""}):
+            accepted = file_of(cubic(), reason="it's short")
+            said = accept.split([at(cubic(), function="Reader.read")], accepted, OPTIONS)
+            self.assertEqual((said.findings[0].state, said.findings[0].reason), (
+                NEW, """accepted under its old name, read; rlt accept app.py:70:1 --reason 'it'"'"'s short' moves that"""))
+            self.assertEqual((said.unused, said.renamed), (list(accepted.rows), {0: accepted.rows[0]}))
+            top = accept.split([at(exponential(), function="f")], file_of(exponential()), OPTIONS).findings[0]
+            self.assertRegex(top.reason, "^accepted when it stood outside functions; rlt accept app.py:70:1 ")
+            for it in (at(cubic(), "b.py", function="g"), at(cubic(mode="match"), function="g"),
+                       judged(at(cubic(), function="g"), "a*a*a*b", Verdict("degree", 3)),
+                       judged(at(cubic(), function="g"), r"\s+(.+), subnet", Verdict("degree", 4))):
+                self.assertEqual(accept.split([it], accepted, OPTIONS).findings[0].reason, "", it)
+            # (an entry whose pattern is still in its function has no old name)
+            copy = accept.split([cubic(), at(cubic(), function="g")], accepted, OPTIONS).findings[1]
+            self.assertEqual((copy.state, copy.reason), (NEW, ""))
+
     def test_an_entry_accepts_one_finding(self) -> None:
         twice = [exponential(), at(exponential())]
         self.assertEqual(states(twice, file_of(exponential())), [ACCEPTED, NEW])
@@ -223,6 +240,14 @@ class Word(unittest.TestCase):
             ran = self.run_it("app.py:2", "--reason=x", findings=[unknown])
             self.assertEqual(ran.status, 1)
             self.assertRegex(ran.err, "can't be accepted")
+
+    def test_a_renamed_function_takes_its_entry_along(self) -> None:
+        with folder({"app.py": ""}):
+            self.run_it("--all", "--reason=a start", findings=[cubic(), exponential()])
+            new, other = at(cubic(), function="parse"), exponential(state=ACCEPTED)
+            ran = self.run_it("app.py:70:1", "--reason", "a start", findings=[new, other])
+            self.assertEqual(ran.out.splitlines()[-1], "relint-accepted.json: 2 accepted, +0")
+            self.assertEqual([it.function for it in accept.load(Options()).rows], ["", "parse"])
 
     def test_all_and_prune(self) -> None:
         with folder({"app.py": "", "b.py": ""}):

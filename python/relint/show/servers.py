@@ -57,11 +57,12 @@ def _message(finding: Finding, summary: Summary) -> str:
     return "\n".join([*parts, address_of(rule_of(finding)) or f"more: rlt explain {rule_of(finding)}"])
 
 
-def _stand_in(finding: Finding) -> str:
-    """Says in brackets that words stand for parts of a pattern that aren't known, or that it is in a test."""
+def _remarks(finding: Finding) -> str:
+    """Says in brackets why a finding isn't accepted, that words stand for unknown parts of it, or that it is in a test."""
     site = finding.site
-    is_said = site is not None and (site.stands_in or site.in_tests)
-    return f" ({'; '.join(visible(it) for it in site.said)})" if site is not None and is_said else ""
+    said = [finding.reason] * bool(finding.reason)
+    said += site.said if site is not None and (site.stands_in or site.in_tests) else ()
+    return f" ({'; '.join(map(visible, said))})" if said else ""
 
 
 def _prints(findings: Iterable[Finding]) -> Iterator[Tuple[Finding, str]]:
@@ -78,7 +79,7 @@ def _prints(findings: Iterable[Finding]) -> Iterator[Tuple[Finding, str]]:
 def concise(findings: Sequence[Finding], summary: Summary, options: Options) -> Iterator[str]:
     """Yields a line for each finding, and the last lines."""
     for it in summary.clock.within(worst_first(findings)):
-        yield f"{_place(it)}: {rule_of(it)} {danger(it, summary.steps_a_second)}{_stand_in(it)}"
+        yield f"{_place(it)}: {rule_of(it)} {danger(it, summary.steps_a_second)}{_remarks(it)}"
     rest = summary.clock.within(others(findings, options))
     yield from (f"{_place(it)}: {rule_of(it)} {other_words(it)}" for it in rest)
     yield result(findings)
@@ -134,7 +135,7 @@ def gitlab(findings: Sequence[Finding], summary: Summary, options: Options) -> I
         words, more = other_words(it), {}
         if is_shown(it):
             fixes = [f"; {offer.kind}: {visible(offer.literal)}" for offer in it.offers[:1]]
-            words = f"{danger(it, summary.steps_a_second)}{_stand_in(it)}{''.join(fixes)}"
+            words = f"{danger(it, summary.steps_a_second)}{_remarks(it)}{''.join(fixes)}"
             more = {"severity": severities[_level(it)], "content": {"body": _message(it, summary)}}
         issues.append({**_issue(rule_of(it), words, print_of_it, (it.entry.path, it.place.line)), **more})
     accepted = [(path, at, accepts(why, options)) for path, at, why in summary.added_accepts]
