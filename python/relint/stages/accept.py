@@ -12,7 +12,7 @@ import os
 import shlex
 from dataclasses import dataclass, replace
 from functools import lru_cache
-from typing import Any, Dict, FrozenSet, List, Mapping, NamedTuple, Optional, Sequence, Set, Tuple
+from typing import Any, Dict, FrozenSet, Iterable, List, Mapping, NamedTuple, Optional, Sequence, Set, Tuple
 
 from ..base.model import ACCEPTED, IGNORED, KNOWN, NEW, OTHER, WARNED, Finding
 from ..base.safe import OpenError, WriteError, is_below, read_below, replace_file, visible
@@ -422,6 +422,17 @@ def _again(accepted: Accepted, findings: Sequence[Finding], options: Options) ->
         return replace(it, state=state, reason="")
 
     return split(list(map(first, findings)), accepted, options)
+
+
+def dead(said: Split, accepted: Accepted, files: Iterable[str], options: Options) -> List[Row]:
+    """Returns the entries that accept nothing any more, as `split` says, of files that were judged or are gone.
+
+    Those of classes that are no findings by the options, and of functions with other names, aren't among them.
+    """
+    judged = {_relative(it, accepted.folder) for it in files}
+    renamed = set(said.renamed.values())
+    return [it for it in said.unused if it not in renamed and not 0 <= _rank(it.cost) <= options.max_degree
+            and (it.path in judged or not os.path.lexists(os.path.join(accepted.folder, it.path)))]
 
 
 def pruned(accepted: Accepted, findings: Sequence[Finding], options: Options) -> Accepted:
