@@ -283,8 +283,10 @@ def try_line(finding: Finding) -> str:
 
 HERE = os.path.dirname(os.path.realpath(__file__))
 RULES_PAGE = "rules"
-# The variable with the address of the folder of pages, for links.
-ADDRESS = "RELINT_PAGES"
+# The variable with the address of the folder of pages, for links, and an address that may be one.
+ADDRESS, WEB = "RELINT_PAGES", re.compile(r"https://(?:[!-.0-~]+/)*[!-.0-~]+/?")
+# The servers whose files have such addresses: a part of the server's name, and what stands before the commit.
+BLOBS = {"github": "blob", "gitlab": "-/blob"}
 
 
 def pages() -> Dict[str, str]:
@@ -323,10 +325,29 @@ def rule_text(code: str) -> Optional[Tuple[str, str]]:
 
 
 def address_of(code: str) -> str:
-    """Returns the address of the page about a rule, if the variable ADDRESS says where the pages are, otherwise ""."""
-    top = os.environ.get(ADDRESS, "")
+    """Returns the address of the page about a rule, or "" if nothing says where the pages are.
+
+    The variable ADDRESS says it or, if pip installed this from a repository, what pip noted.
+    """
+    named = os.environ.get(ADDRESS, "")
+    top = named if WEB.fullmatch(named) else _repository()
     anchor = re.sub("[^a-z0-9 -]", "", _section(code)[0].lower()).replace(" ", "-")
-    return f"{top.rstrip('/')}/RULES.md#{anchor}" if re.fullmatch(r"https://[!-~]+", top) and code in RULES else ""
+    return f"{top.rstrip('/')}/RULES.md#{anchor}" if top and code in RULES else ""
+
+
+@lru_cache(maxsize=None)
+def _repository() -> str:
+    """The address of the pages in the repository on a web server from which pip installed this; "" if it is none."""
+    metadata = importlib.import_module("importlib.metadata")
+    try:
+        noted = importlib.import_module("json").loads(metadata.distribution("relint").read_text("direct_url.json") or "{}")
+        url, commit = str(noted["url"]), str(noted["vcs_info"]["commit_id"])
+    except (metadata.PackageNotFoundError, OSError, ValueError, LookupError, TypeError):
+        return ""
+    server = url[8:].partition("/")[0]
+    middle = next((it for name, it in BLOBS.items() if name in server), "")
+    top = f"{url[:-4] if url.endswith('.git') else url.rstrip('/')}/{middle}/{commit}/docs"
+    return top if middle and "@" not in server and WEB.fullmatch(top) else ""
 
 
 def explained(topic: str) -> Optional[str]:

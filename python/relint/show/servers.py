@@ -13,11 +13,11 @@ from typing import Any, Dict, Iterable, Iterator, Optional, Sequence, Tuple
 from urllib.parse import quote
 
 from ..base.model import (
-    ACCEPTED, IGNORED, KNOWN, OTHER, PROVED, UNUSED, Bound, Entry, Family, Finding, Place, Summary, Verdict,
+    ACCEPTED, IGNORED, KNOWN, NEW, OTHER, PROVED, UNUSED, Bound, Entry, Family, Finding, Place, Summary, Verdict,
 )
 from ..base.safe import SERVER_COMMAND, line, visible
 from ..base.words import (
-    RULES, address_of, class_word, danger, flag_letters, offer_words, outcome, quoted, rule_of, rule_text, try_line,
+    CAUSES, RULES, address_of, class_word, danger, flag_letters, offer_words, outcome, quoted, rule_of, rule_text, try_line,
 )
 from ..options import Options
 from ..stages.accept import key_of
@@ -54,7 +54,7 @@ def _message(finding: Finding, summary: Summary) -> str:
     parts += [] if finding.offers else ["fix: none was found; rlt explain fixing shows how such patterns are rewritten"]
     code = try_line(finding)
     parts += [f"try: {code}"] if code else []
-    return "\n".join([*parts, address_of(rule_of(finding)) or f"more: rlt explain {rule_of(finding)}"])
+    return "\n".join([*parts, f"more: {address_of(rule_of(finding)) or f'rlt explain {rule_of(finding)}'}"])
 
 
 def _remarks(finding: Finding) -> str:
@@ -93,11 +93,16 @@ def _place(finding: Finding) -> str:
 
 
 def github(findings: Sequence[Finding], summary: Summary, options: Options) -> Iterator[str]:
-    """Yields an annotation for each finding, and for each accept that the change adds; then the last lines."""
+    """Yields an annotation for each finding, and for each accept that the change adds; then the last lines.
+
+    An error is what fails the run, and nothing else.
+    """
     for it in summary.clock.within(worst_first(findings)):
-        yield annotation("error" if _level(it) == "error" else "warning", it, _message(it, summary))
+        yield annotation("error" if it.state == NEW else "warning", it, _message(it, summary))
     for it in summary.clock.within(others(findings, options)):
-        yield annotation("notice", it, other_words(it))
+        yield annotation("error" if options.strict and is_open(it, options) else "notice", it, other_words(it))
+    for lost in summary.clock.within([it for it in summary.not_looked if it.fails or options.strict]):
+        yield command("error", [("file", lost.path)], f"not looked at: {CAUSES.get(lost.why, lost.why)}")
     for path, at, why in summary.added_accepts:
         yield command("notice", [("file", path), ("line", str(at))], accepts(why, options))
     for narrowed in summary.narrowed or options.narrowed:
