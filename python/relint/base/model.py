@@ -278,8 +278,8 @@ class Offer:
 
     A fix is no finding any more, and the code can't notice it; what is better is still a finding; advice changes what a group
     holds or which texts match, as `differs` says in one clause. `literal` is how the new pattern is written in the source.
-    `proof` is "proved" if the programs proved what is said, and "checked" if only trials were made. `hard_to_read` marks a
-    pattern that is right but long.
+    `proof` is "proved" if the programs proved what is said, and "checked" if only trials were made. `unread` says in a clause
+    which part of a match may be another one, as no use reads it. `hard_to_read` marks a pattern that is right but long.
     """
 
     kind: str
@@ -291,6 +291,7 @@ class Offer:
     rule: str = ""
     hard_to_read: bool = False
     needs: str = ""
+    unread: str = ""
 
 
 @dataclass(frozen=True)

@@ -59,6 +59,8 @@ LIMITS = {
     "sets": "too many sets of places were tried in vain",
     "pairs": "too many pairs of places",
 }
+# What is said of a fix where the code sees only whether there is a match.
+UNREAD = "nothing here reads more"
 LAWS = {"search-costs-its-match": "by its match", "one-degree-more": "by its match"}
 
 
@@ -197,8 +199,9 @@ def offer_words(offer: Offer) -> str:
     if offer.kind == "advice":
         said = f"{class_word(offer.verdict)}; {offer.differs or 'it matches other texts'}"
     else:
-        said = f"{class_word(offer.verdict)}, {'still a finding; ' if offer.kind == 'better' else 'and '}finds the same"
-    said += f" ({offer.proof})" + ("; right, but hard to read" if offer.hard_to_read else "")
+        same = "matches the same texts" if offer.unread == UNREAD else "finds the same"
+        said = f"{class_word(offer.verdict)}, {'still a finding; ' if offer.kind == 'better' else 'and '}{same}"
+    said += f" ({offer.proof})" + (f"; {offer.unread}" if offer.unread else "") + ("; right, but hard to read" if offer.hard_to_read else "")
     return visible(said + (f"; needs {offer.needs}" if offer.needs else ""))
 
 
