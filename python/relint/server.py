@@ -158,7 +158,7 @@ class Editor:
         lost = accepting.write(file, options)
         self.forget()
         place_of_it = f"{visible(it.entry.path)}:{it.place.line}"
-        return "; ".join([f"{place_of_it}: {accepting.class_of(it)}, accepted in {visible(file.file)}", *lost])
+        return "; ".join([f"{place_of_it}: {accepting.class_words(it)}, accepted in {visible(file.file)}", *lost])
 
 
 def path_of(uri: str) -> str:

@@ -221,6 +221,8 @@ class Word(unittest.TestCase):
                              (0, "app.py:2: exponential, accepted\nrelint-accepted.json: 1 accepted, +1\n"))
             found = accept.load(Options())
             self.assertEqual([(it.cost, it.reason, it.function) for it in found.rows], [("exponential", "it is short", "")])
+            ran = self.run_it("app.py:5", "--reason=x", "--accepted=b.json", findings=[cubic()])
+            self.assertEqual(ran.out, "app.py:5: cubic, accepted\nb.json: 1 accepted, +1\n")
             ran = self.run_it("app.py:9", "--reason=later", findings=[exponential(state=ACCEPTED), refused()])
             self.assertEqual([it.cost for it in accept.load(Options()).rows], ["refused", "exponential"])
             ran = self.run_it("app.py:2", "--reason=better", findings=[exponential(state=ACCEPTED), refused()])

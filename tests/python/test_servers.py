@@ -91,6 +91,7 @@ class Lines(unittest.TestCase):
         self.assertEqual(message[0], "exponential: a text of 30 characters keeps this search busy for about a minute")
         self.assertRegex(message[1], '^why: "00" can be read in two ways')
         self.assertRegex(message[3], r"^fix: put r\"\^\(\?:\(\?:.* in its place    linear, and finds the same \(proved\)$")
+        self.assertRegex(message[-2], r"^try: python3 -I -c '.*'  # Ctrl-C stops it$")
         self.assertEqual(message[-1], "more: rlt explain RLT100")
         with mock.patch.dict(os.environ, {ADDRESS: "https://github.com/a/b/blob/v2/docs"}):
             line = made(servers.github, [exponential()]).splitlines()[0]

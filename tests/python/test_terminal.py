@@ -20,7 +20,7 @@ SCREEN = r"""app.py:2:19: RLT100 exponential: a text of 30 characters keeps this
           text    0 0 0
           way 1   A A A|A     a bar is a new round of (\w+,?)*
           way 2   A|A|A
-  try:  python3 -I -c 'import re; re.search(r"^(\w+,?)*$", "0" * 29 + " ")'
+  try:  python3 -I -c 'import re; re.search(r"^(\w+,?)*$", "0" * 29 + " ")'  # Ctrl-C stops it
   fix:  r"^(?:(?:\w+,)*(\w+,?))?$"    linear, and finds the same (proved)
 
 app.py:5:22: RLT103 cubic: a text of 1,600 characters keeps this search busy for about 20 seconds
@@ -32,7 +32,7 @@ app.py:5:22: RLT103 cubic: a text of 1,600 characters keeps this search busy for
           way 2   A A A B
           ...
           way 5   B B B B
-  try:  python3 -I -c 'import re; re.search(r"\s+(.+), subnet", "\t" * 1600)'
+  try:  python3 -I -c 'import re; re.search(r"\s+(.+), subnet", "\t" * 1600)'  # Ctrl-C stops it
   fix:  r"\s+(\S.*|[^\S\n]), subnet"    quadratic, and finds the same (proved)
 
 2 findings in 1 file: 1 exponential, 1 cubic. Both can be fixed: rlt fix

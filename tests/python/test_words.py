@@ -156,7 +156,7 @@ class Explained(unittest.TestCase):
 
     def test_rules_causes_and_pages(self) -> None:
         self.assertRegex(words.explained("rlt100") or "", "^# RLT100: exponential pattern\n\n")
-        self.assertRegex(words.explained("RLT142") or "", "^# RLT142: polynomial pattern\n")
+        self.assertRegex(words.explained("RLT142") or "", "^# RLT142: quadratic, cubic and the like\n")
         self.assertRegex(words.explained("lookaround") or "", "^lookaround: a lookahead")
         self.assertRegex(words.explained("pairs") or "", "RLT200")
         self.assertRegex(words.explained("Rules") or "", "^# Classes and rules")

@@ -22,7 +22,8 @@ from ..base.words import (
 from ..options import Options
 from ..stages.accept import key_of
 from .terminal import (
-    accepts, class_of, drawn, facts, is_open, is_shown, line_starts, other_words, others, result, rows, why_words, worst_first,
+    CTRL_C, accepts, class_of, drawn, facts, is_open, is_shown, line_starts, other_words, others, result, rows, why_words,
+    worst_first,
 )
 
 NAME, SCHEMA = "relint", "https://json.schemastore.org/sarif-2.1.0.json"
@@ -53,7 +54,7 @@ def _message(finding: Finding, summary: Summary) -> str:
     parts += [f"{it.kind}: put {visible(it.literal)} in its place    {offer_words(it)}" for it in finding.offers]
     parts += [] if finding.offers else ["fix: none was found; rlt explain fixing shows how such patterns are rewritten"]
     code = try_line(finding)
-    parts += [f"try: {code}"] if code else []
+    parts += [f"try: {code}  {CTRL_C}"] if code else []
     return "\n".join([*parts, f"more: {address_of(rule_of(finding)) or f'rlt explain {rule_of(finding)}'}"])
 
 

@@ -24,6 +24,8 @@ COLOURS = {"error": "1;31", "warning": "1;33", "place": "1", "dim": "2", "mark":
 UNSEEN = "\N{REPLACEMENT CHARACTER}"
 SHOWN = {" ": "\u2423", "\n": "\u2424", "\t": "\u21e5", "\r": "\u240d"}
 RUNS = {" ": "blanks", "\n": "line ends", "\t": "tabs", "\r": "carriage returns"}
+# (a comment for a shell, so that the whole line can be pasted)
+CTRL_C = "# Ctrl-C stops it"
 DOT, LETTERS = "\u00b7", "ABCDEFGHIJKLMNOPQRSTUVWXYZ"
 # The parts of a pattern that rows name, by their spans, with their letters.
 Letters = Dict[Span, str]
@@ -318,7 +320,7 @@ def _details(finding: Finding) -> Iterator[Tuple[str, str]]:
         yield "why", growth_words(finding.verdict)
     code = try_line(finding)
     if code:
-        yield "try", code
+        yield "try", f"{code}  {CTRL_C}"
     for offer in finding.offers:
         yield offer.kind, f"{visible(offer.literal)}    {offer_words(offer)}"
 

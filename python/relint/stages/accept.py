@@ -16,7 +16,7 @@ from typing import Any, Dict, FrozenSet, Iterable, List, Mapping, NamedTuple, Op
 
 from ..base.model import ACCEPTED, IGNORED, KNOWN, NEW, OTHER, WARNED, Finding
 from ..base.safe import OpenError, WriteError, is_below, read_below, replace_file, visible
-from ..base.words import flag_letters, quoted, rule_of
+from ..base.words import class_word, flag_letters, quoted, rule_of
 from ..options import Options
 
 MOST_BYTES, MOST_ROWS, LONGEST_REASON = 16_777_216, 100_000, 1000
@@ -132,6 +132,11 @@ def class_of(finding: Finding) -> str:
         return REFUSED
     rank = verdict.rank()
     return UNDECIDED if rank < 0 else EXPONENTIAL if rank == 1_000_000 else f"degree {rank}"
+
+
+def class_words(finding: Finding) -> str:
+    """Returns the class of a finding for people, such as "cubic"."""
+    return class_word(finding.verdict) if finding.verdict is not None else "not judged"
 
 
 def _rank(cost: str) -> int:
