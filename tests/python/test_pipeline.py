@@ -280,6 +280,12 @@ class Change(unittest.TestCase):
             self.assertEqual((found, got), (states, status), (before, after, words))
             added = "relint-accepted.json" in after
             self.assertEqual([it[1:] for it in summary.added_accepts], [(2, "ours")] if added else [])
+            said = "noqa comments hide 1 finding of this change: app.py:3"
+            self.assertEqual([it for it in summary.notes if "noqa" in it], [said] if states == ["ignored"] else [])
+        both = {"app.py": hidden, "b.py": "import re\n\n\n" + hidden.replace("(a|a)", "(c|c)")}
+        found, summary, got = self.change({"app.py": hidden}, both)
+        self.assertEqual((found, got), (["known", "ignored"], 0))
+        self.assertIn("noqa comments hide 1 finding of this change: b.py:6", summary.notes)
 
     def test_entries_that_accept_nothing_are_named_by_a_whole_run(self) -> None:
         with folder({"pyproject.toml": "[tool.relint]\n", "app.py": SLOW, "b.py": SLOW, "c.py": SLOW, "d.py": ""}):

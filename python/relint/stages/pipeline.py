@@ -10,10 +10,10 @@ from typing import Dict, Iterator, List, Mapping, NamedTuple, Optional, Sequence
 
 from ..base import rate
 from ..base.model import (
-    MODES, NEW, OTHER, PROVED, UNUSED, WARNED, Clock, Entry, Finding, NotLooked, Summary, Text, Uses, Verdict,
+    IGNORED, MODES, NEW, OTHER, PROVED, UNUSED, WARNED, Clock, Entry, Finding, NotLooked, Summary, Text, Uses, Verdict,
 )
 from ..base.safe import OpenError, Scratch, is_below, parts_named, read_named, visible
-from ..base.words import counted
+from ..base.words import counted, listed
 from ..engine.ask import Asker
 from ..engine.engine import MOST_BYTES, Judged, Progress, ReportError, judge, not_looked, read_report
 from ..engine.run import Run
@@ -33,6 +33,7 @@ REPORTED = (".py", ".pyi", ".ipynb")
 MODES_OF_CALLS = {"match": "match", "fullmatch": "fullmatch"}
 TOO_MANY = "the project has too many files to look for its uses"
 LATE = "time ran out"
+MOST_NAMED = 5
 
 
 def run(options: Options, progress: Optional[Progress] = None) -> Tuple[List[Finding], Summary]:
@@ -364,7 +365,16 @@ def accepted(findings: List[Finding], run: Run) -> List[Finding]:
         run.notes += dead_words(accept.dead(said, file, files, run.options))
     findings = said.findings
     findings, run.unused_ignores = accept.ignored(findings, run.ignores, run.options)
+    if run.earlier is not None:
+        run.notes += _own_ignores(findings)
     return findings
+
+
+def _own_ignores(findings: Sequence[Finding]) -> List[str]:
+    """The line on what a change hides itself: findings with an ignoring comment that didn't stand in the earlier commit."""
+    hidden = [f"{visible(it.entry.path)}:{it.place.line}" for it in findings if it.state == IGNORED]
+    said = f"noqa comments hide {counted(len(hidden), 'finding')} of this change: {listed(hidden, MOST_NAMED)}"
+    return [said] if hidden else []
 
 
 def _is_whole(run: Run) -> bool:
