@@ -11,7 +11,9 @@ from typing import Any, Callable, Dict, List, Sequence
 from unittest import mock
 
 import report_schemas
-from relint.base.model import ACCEPTED, IGNORED, KNOWN, PROVED, SEEN, WARNED, Finding, Narrowed, NotLooked, Place, Seen, Summary
+from relint.base.model import (
+    ACCEPTED, IGNORED, KNOWN, PROVED, SEEN, WARNED, Finding, Narrowed, NotLooked, Place, Seen, Summary,
+)
 from relint.base.words import ADDRESS
 from relint.engine.engine import read_report
 from relint.options import Options
@@ -95,7 +97,7 @@ class Lines(unittest.TestCase):
         self.assertEqual(message[-1], "more: rlt explain RLT100")
         with mock.patch.dict(os.environ, {ADDRESS: "https://github.com/a/b/blob/v2/docs"}):
             line = made(servers.github, [exponential()]).splitlines()[0]
-        self.assertTrue(line.endswith("%0Amore: https://github.com/a/b/blob/v2/docs/RULES.md#rlt100-exponential-pattern"), line)
+        self.assertTrue(line.endswith("%0Amore: https://github.com/a/b/blob/v2/docs/RULES.md#rlt100-exponential-pattern"))
 
     def test_github_calls_an_error_what_fails(self) -> None:
         def levels(*findings: Finding, summary: Summary = SUMMARY, **more: Any) -> List[str]:
@@ -108,7 +110,8 @@ class Lines(unittest.TestCase):
         self.assertEqual(levels(refused(), undecided(), exponential(state=ACCEPTED), all=True), ["::notice"] * 3)
         self.assertEqual(levels(refused(), undecided(), strict=True), ["::error"] * 2)
         self.assertEqual(levels(refused(), exponential(state=ACCEPTED), strict=True, all=True), ["::error", "::notice"])
-        lost = replace(SUMMARY, not_looked=(NotLooked("b.py", "it isn't UTF-8", fails=True), NotLooked("c.py", "it is a link")))
+        files = NotLooked("b.py", "it isn't UTF-8", fails=True), NotLooked("c.py", "it is a link")
+        lost = replace(SUMMARY, not_looked=files)
         self.assertEqual(levels(summary=lost), ["::error"])
         self.assertEqual(levels(summary=lost, strict=True), ["::error", "::error"])
         self.assertIn("::error file=b.py::not looked at: it isn't UTF-8", made(servers.github, [], lost))

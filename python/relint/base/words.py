@@ -201,8 +201,9 @@ def offer_words(offer: Offer) -> str:
     else:
         same = "matches the same texts" if offer.unread == UNREAD else "finds the same"
         said = f"{class_word(offer.verdict)}, {'still a finding; ' if offer.kind == 'better' else 'and '}{same}"
-    said += f" ({offer.proof})" + (f"; {offer.unread}" if offer.unread else "") + ("; right, but hard to read" if offer.hard_to_read else "")
-    return visible(said + (f"; needs {offer.needs}" if offer.needs else ""))
+    said += f" ({offer.proof})"
+    more = (offer.unread, "right, but hard to read" * offer.hard_to_read, f"needs {offer.needs}" if offer.needs else "")
+    return visible("; ".join([said, *filter(None, more)]))
 
 
 # ---- Python code

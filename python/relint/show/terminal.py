@@ -112,12 +112,12 @@ def rows(reading: Reading) -> List[Tuple[str, str]]:
         return [("text", _row(text[-1] + text))] + [(f"way {at}", _row(text[-1] + text, it, letters, bar)) for at, it in
                                                     enumerate(ways, 1)]
     copies = 4 if len(text) == 1 else 3
-    last = copies if reading.loops[0] is None else copies - 1
+    most = copies if reading.loops[0] is None else copies - 1
     before, over, behind = (list(it) for it in reading.ways)
     found = [("text", _row(text * copies))]
-    for at in range(1, last + 1):
-        if at in (1, 2, last):
-            found += [("...", "")] if at == last > 3 else []
+    for at in range(1, most + 1):
+        if at in (1, 2, most):
+            found += [("...", "")] if at == most > 3 else []
             way = before * (copies - at) + over + behind * (at - 1)
             found.append((f"way {at}", _row(text * copies, way, letters)))
     return found
