@@ -75,6 +75,11 @@ class Shown(unittest.TestCase):
                 self.assertTrue(5e8 < finding.growth.steps < 2e10, finding.growth.steps)
                 self.assertEqual(finding.why.drawn.text in text, True)
 
+    def test_a_text_is_no_longer_than_what_is_counted(self) -> None:
+        finding = self.told(r"(?:abcdefgh)+x")["finding"]
+        self.assertTrue(64_000 < finding.growth.length <= 65_536, finding.growth)
+        self.assertGreater(finding.growth.steps, 1e8)
+
     def test_one_run_is_written_as_one(self) -> None:
         finding = self.told(r"\s+(.+), subnet")["finding"]
         self.assertRegex(try_code(finding), r'subnet", "\\t" \* 1[3-6]00\)$')

@@ -17,7 +17,8 @@ from ..engine.engine import ReportError, read_text
 from ..engine.run import Run
 
 SECONDS_EXPONENTIAL, SECONDS_DEGREE = 60, 20
-LONGEST_SHOWN = 100_000
+# (relint-ask counts the steps of texts of up to 65,536 characters)
+LONGEST_SHOWN = 65_000
 # The lengths of the texts whose steps are counted first.
 FIRST_LENGTHS = {True: (12, 24), False: (400, 800)}
 # The steps of a text of so many are no number any more. A shorter family isn't taken if its text misses what is wanted by FAR.
@@ -79,7 +80,7 @@ class _Search:
     def next(self) -> Optional[int]:
         """The number of the text to count now, or None once `result` is set, or if nothing is known."""
         guess = self.guess()
-        k = _rounded(min(self.k_of(LONGEST_SHOWN), guess), self.is_exponential) if guess is not None else 0
+        k = min(self.k_of(LONGEST_SHOWN), _rounded(guess, self.is_exponential)) if guess is not None else 0
         if guess is not None and k not in self.points and self.tried < MOST_ROUNDS:
             self.tried += 1
             return k
