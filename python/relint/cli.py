@@ -244,10 +244,11 @@ def accept(options: Options) -> int:
     if options.prune:
         after = accepting.pruned(before, findings, options)
     else:
+        moved = accepting.old_entries(before, findings, options)
         for it in _named(findings, options):
             try:
-                after = accepting.with_finding(after, it, reason)
-                put([line(f"{it.entry.path}:{it.place.line}: {accepting.class_of(it)}, accepted")])
+                after = accepting.with_finding(after, it, reason, next((row for one, row in moved if one is it), None))
+                put([line(f"{it.entry.path}:{it.place.line}: {accepting.class_words(it)}, accepted")])
             except accepting.AcceptError as error:
                 lost = _failed(str(error), FINDING)
     say(accepting.write(after, options))

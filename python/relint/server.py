@@ -152,11 +152,13 @@ class Editor:
         if kept.opened is None or it is None or not accepting.can_be_accepted(it, kept.opened.run.options):
             raise accepting.AcceptError("there is no finding any more")
         options = kept.opened.run.options
-        file = accepting.with_finding(accepting.load(options), it, accepting.checked_reason(reason))
+        before = accepting.load(options)
+        moved = [row for one, row in accepting.old_entries(before, kept.opened.findings, options) if one is it]
+        file = accepting.with_finding(before, it, accepting.checked_reason(reason), *moved)
         lost = accepting.write(file, options)
         self.forget()
         place_of_it = f"{visible(it.entry.path)}:{it.place.line}"
-        return "; ".join([f"{place_of_it}: {accepting.class_of(it)}, accepted in {visible(file.file)}", *lost])
+        return "; ".join([f"{place_of_it}: {accepting.class_words(it)}, accepted in {visible(file.file)}", *lost])
 
 
 def path_of(uri: str) -> str:

@@ -37,7 +37,7 @@ def exponential(**more: Any) -> Finding:
     stay, leave = step(part, (inner, "round")), step(part, (inner, "stop"), (loop, "round"))
     given = dict(
         entry=Entry("app.py", "exponential", Place(2, 19), "compile", EXPONENTIAL), state=NEW, site=site(ROWS, 28),
-        growth=Growth(13, 30, 2684354560, True, 4.0), why=Why((Reading("00", ((stay, leave), (leave, leave)), 0),)),
+        growth=Growth(13, 30, 2684354560, 4.0), why=Why((Reading("00", ((stay, leave), (leave, leave)), 0),)),
         offers=(Offer("fix", r"^(?:(?:\w+,)*(\w+,?))?$", r'r"^(?:(?:\w+,)*(\w+,?))?$"', Verdict("degree", 1)),),
         lines=((2, f'ROWS = re.compile(r"{ROWS}")'),))
     return Finding(**{**given, **more})  # type: ignore[arg-type]
@@ -51,7 +51,7 @@ def cubic(**more: Any) -> Finding:
     family = Family(("", "", ""), ("\t", "\t"))
     given = dict(
         entry=Entry("app.py", "degree", Place(5, 22), "search", Verdict("degree", 3, family=family)), state=NEW,
-        site=site(SUBNET, 121, function="read"), growth=Growth(800, 1600, 1_100_000_000, True), why=Why((skipped, shared)),
+        site=site(SUBNET, 121, function="read"), growth=Growth(800, 1600, 1_100_000_000), why=Why((skipped, shared)),
         offers=(Offer("fix", r"\s+(\S.*|[^\S\n]), subnet", r'r"\s+(\S.*|[^\S\n]), subnet"', Verdict("degree", 2)),),
         lines=((5, f'    return re.search(r"{SUBNET}", s)'),))
     return Finding(**{**given, **more})  # type: ignore[arg-type]

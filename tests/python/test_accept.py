@@ -74,6 +74,23 @@ class Splitting(unittest.TestCase):
             os.remove("app.py")
             self.assertEqual(states([at(exponential(), "b.py"), at(exponential(), "c.py")], accepted), [ACCEPTED, NEW])
 
+    def test_a_renamed_function(self) -> None:
+        with folder({"app.py": "", "b.py": ""}):
+            accepted = file_of(cubic(), reason="it's short")
+            said = accept.split([at(cubic(), function="Reader.read")], accepted, OPTIONS)
+            self.assertEqual((said.findings[0].state, said.findings[0].reason), (
+                NEW, """accepted under its old name, read; rlt accept app.py:70:1 --reason 'it'"'"'s short' moves that"""))
+            self.assertEqual((said.unused, said.renamed), (list(accepted.rows), {0: accepted.rows[0]}))
+            top = accept.split([at(exponential(), function="f")], file_of(exponential()), OPTIONS).findings[0]
+            self.assertRegex(top.reason, "^accepted when it stood outside functions; rlt accept app.py:70:1 ")
+            for it in (at(cubic(), "b.py", function="g"), at(cubic(mode="match"), function="g"),
+                       judged(at(cubic(), function="g"), "a*a*a*b", Verdict("degree", 3)),
+                       judged(at(cubic(), function="g"), r"\s+(.+), subnet", Verdict("degree", 4))):
+                self.assertEqual(accept.split([it], accepted, OPTIONS).findings[0].reason, "", it)
+            # (an entry whose pattern is still in its function has no old name)
+            copy = accept.split([cubic(), at(cubic(), function="g")], accepted, OPTIONS).findings[1]
+            self.assertEqual((copy.state, copy.reason), (NEW, ""))
+
     def test_an_entry_accepts_one_finding(self) -> None:
         twice = [exponential(), at(exponential())]
         self.assertEqual(states(twice, file_of(exponential())), [ACCEPTED, NEW])
@@ -217,6 +234,8 @@ class Word(unittest.TestCase):
                              (0, "app.py:2: exponential, accepted\nrelint-accepted.json: 1 accepted, +1\n"))
             found = accept.load(Options())
             self.assertEqual([(it.cost, it.reason, it.function) for it in found.rows], [("exponential", "it is short", "")])
+            ran = self.run_it("app.py:5", "--reason=x", "--accepted=b.json", findings=[cubic()])
+            self.assertEqual(ran.out, "app.py:5: cubic, accepted\nb.json: 1 accepted, +1\n")
             ran = self.run_it("app.py:9", "--reason=later", findings=[exponential(state=ACCEPTED), refused()])
             self.assertEqual([it.cost for it in accept.load(Options()).rows], ["refused", "exponential"])
             ran = self.run_it("app.py:2", "--reason=better", findings=[exponential(state=ACCEPTED), refused()])
@@ -236,6 +255,14 @@ class Word(unittest.TestCase):
             ran = self.run_it("app.py:2", "--reason=x", findings=[unknown])
             self.assertEqual(ran.status, 1)
             self.assertRegex(ran.err, "can't be accepted")
+
+    def test_a_renamed_function_takes_its_entry_along(self) -> None:
+        with folder({"app.py": ""}):
+            self.run_it("--all", "--reason=a start", findings=[cubic(), exponential()])
+            new, other = at(cubic(), function="parse"), exponential(state=ACCEPTED)
+            ran = self.run_it("app.py:70:1", "--reason", "a start", findings=[new, other])
+            self.assertEqual(ran.out.splitlines()[-1], "relint-accepted.json: 2 accepted, +0")
+            self.assertEqual([it.function for it in accept.load(Options()).rows], ["", "parse"])
 
     def test_all_and_prune(self) -> None:
         with folder({"app.py": "", "b.py": ""}):

@@ -65,7 +65,7 @@ class Across(unittest.TestCase):
             uses = across([at["a.py"], at["b.py"]], {3: (at["a.py"], found.local[0])}, pool)[3]
             self.assertEqual([(it.method, it.path, it.line) for it in uses.uses],
                              [("match", at["a.py"], 3), ("search", at["b.py"], 2)])
-            self.assertEqual((uses.lost, uses.is_public), ("", True))
+            self.assertEqual(uses.lost, "")
             self.assertEqual([it.method for it in alone(at["a.py"], found.local[0]).uses], ["match"])
 
     def test_a_file_on_which_the_parser_dies(self) -> None:

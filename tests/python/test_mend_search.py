@@ -14,6 +14,7 @@ from unittest import mock
 
 from engine_support import missing
 from relint.base.model import Bound, Entry, Finding, Literal, Offer, Place, Site, Text, Use, Uses, Verdict
+from relint.base.words import offer_words
 from relint.engine.ask import Asker
 from relint.mend import offers, search
 from relint.mend.nodes import CHOICE, ROW, Alphabet, Node, choice, row
@@ -211,6 +212,22 @@ class Uses_(unittest.TestCase):
         read = self.offered(finding(r"^(\w+,?)*$", Uses((Use("search", "a.py", 1),), is_read=True)))
         self.assertEqual([(it.kind, it.differs) for it in read], [("advice", offers.READ)])
         self.assertEqual(self.offered(Finding(finding("(a+)+b").entry)), ())
+
+    @unittest.skipIf(NO_ASK, NO_ASK)
+    def test_what_no_use_reads_is_said(self) -> None:
+        def said(pattern: str, method: str, sees: str, position: bool = False) -> str:
+            """What is said of the first offer for a pattern with one use."""
+            return offer_words(self.offered(finding(pattern, Uses((Use(method, "a.py", 1, position, sees),))))[0])
+
+        loop, tags = r"(\w+\s?)*z", r".*<b>(.*)</b>.*"
+        self.assertEqual(said(loop, "search", "spans"), "quadratic, and finds the same (proved); nothing here reads the group")
+        self.assertEqual(said(loop, "search", "truth"), "linear, and matches the same texts (proved); nothing here reads more")
+        self.assertEqual(said(r"(\w+,?)*" + loop, "sub", "spans"),
+                         "quadratic, and finds the same (proved); nothing here reads the groups")
+        self.assertEqual(said(tags, "search", "groups"),
+                         "quadratic, and finds the same (proved); no call here gives a position")
+        self.assertEqual(said(r"(?:\w+\s?)*z", "fullmatch", "groups"), "quadratic, and finds the same (proved)")
+        self.assertEqual(said(r"^(\w+,?)*$", "search", "groups"), "linear, and finds the same (proved)")
 
     @unittest.skipIf(NO_ASK, NO_ASK)
     def test_what_is_still_a_finding_is_no_fix(self) -> None:

@@ -102,6 +102,7 @@ class Lines(unittest.TestCase):
         for word in WORDS:
             lines = help_of(word).splitlines()
             self.assertLessEqual(len(lines), 25, word)
+            self.assertNotRegex(help_of(word), "live pair|table of takers|degree that is no finding [(]")
             self.assertLessEqual(max(map(len, lines)), 127, word)
             self.assertTrue(all(it in help_of(word) for it in options_of(word)), word)
         self.assertIn("--max-degree N", help_of("check"))

@@ -20,6 +20,7 @@ from relint.files import Earlier
 from relint.options import Options, read_options
 from relint.show import servers
 from relint.stages import growth, pipeline
+from screens_support import rlt
 
 NO_PROGRAM = missing("relint", "relint-ask")
 NO_GIT = "" if shutil.which("git") else "it needs git"
@@ -295,6 +296,33 @@ class Change(unittest.TestCase):
             self.assertEqual((found, got), (states, status), (before, after, words))
             added = "relint-accepted.json" in after
             self.assertEqual([it[1:] for it in summary.added_accepts], [(2, "ours")] if added else [])
+            said = "noqa comments hide 1 finding of this change: app.py:3"
+            self.assertEqual([it for it in summary.notes if "noqa" in it], [said] if states == ["ignored"] else [])
+        both = {"app.py": hidden, "b.py": "import re\n\n\n" + hidden.replace("(a|a)", "(c|c)")}
+        found, summary, got = self.change({"app.py": hidden}, both)
+        self.assertEqual((found, got), (["known", "ignored"], 0))
+        self.assertIn("noqa comments hide 1 finding of this change: b.py:6", summary.notes)
+
+    def test_entries_that_accept_nothing_are_named_by_a_whole_run(self) -> None:
+        with folder({"pyproject.toml": "[tool.relint]\n", "app.py": SLOW, "b.py": SLOW, "c.py": SLOW, "d.py": ""}):
+            self.assertEqual(rlt("accept", "--all", "--reason=known").status, 0)
+            put("b.py", "")
+            os.remove("c.py")
+            said = "2 accepted entries match nothing; rlt accept --prune removes them"
+            self.assertEqual((ran()[1].notes, ran()[2]), ((said,), 0))
+            self.assertEqual(ran("--strict")[2], 0)
+            self.assertIn(said, rlt("check", "--format=concise").out)
+            for words in (["."], ["app.py"], ["--max-degree", "2", "b.py"]):
+                self.assertEqual(ran(*words)[1].notes, (), words)
+        with folder({"pyproject.toml": "[tool.relint]\n", "app.py": SLOW, "sub/b.py": SLOW}):
+            self.assertEqual(rlt("accept", "--all", "--reason=known").status, 0)
+            put("sub/b.py", "")
+            os.chdir("sub")
+            self.assertEqual(ran()[1].notes, ())
+            os.chdir("..")
+            self.assertEqual(ran()[1].notes, ("1 accepted entry matches nothing; rlt accept --prune removes it",))
+            self.assertEqual(rlt("accept", "--prune").out, "relint-accepted.json: 1 accepted, -1\n")
+            self.assertEqual(ran()[1].notes, ())
 
     def test_what_blinds_the_check(self) -> None:
         latin, good, two = b"# coding: latin-1\n", b"import re\n", b"# \xe9\n"

@@ -3,15 +3,18 @@ from __future__ import annotations
 
 import importlib
 import json
+import os
 import re
 import unittest
 from dataclasses import replace
 from typing import Any, Callable, Dict, List, Sequence
+from unittest import mock
 
 import report_schemas
 from relint.base.model import (
-    ACCEPTED, IGNORED, KNOWN, OTHER, PROVED, SEEN, Finding, Narrowed, NotLooked, Place, Seen, Summary, Verdict,
+    ACCEPTED, IGNORED, KNOWN, OTHER, PROVED, SEEN, WARNED, Finding, Narrowed, NotLooked, Place, Seen, Summary, Verdict,
 )
+from relint.base.words import ADDRESS
 from relint.engine.engine import read_report
 from relint.options import Options
 from relint.show import servers, terminal
@@ -104,15 +107,35 @@ class Lines(unittest.TestCase):
         self.assertEqual(message[0], "exponential: a text of 30 characters keeps this search busy for about a minute")
         self.assertRegex(message[1], '^why: "00" can be read in two ways')
         self.assertRegex(message[3], r"^fix: put r\"\^\(\?:\(\?:.* in its place    linear, and finds the same \(proved\)$")
+        self.assertRegex(message[-2], r"^try: python3 -I -c '.*'  # Ctrl-C stops it$")
         self.assertEqual(message[-1], "more: rlt explain RLT100")
-        self.assertRegex(lines[1], "^::warning file=app.py,line=5,col=22,title=relint RLT103::cubic: ")
+        with mock.patch.dict(os.environ, {ADDRESS: "https://github.com/a/b/blob/v2/docs"}):
+            line = made(servers.github, [exponential()]).splitlines()[0]
+        self.assertTrue(line.endswith("%0Amore: https://github.com/a/b/blob/v2/docs/RULES.md#rlt100-exponential-pattern"))
+
+    def test_github_calls_an_error_what_fails(self) -> None:
+        def levels(*findings: Finding, summary: Summary = SUMMARY, **more: Any) -> List[str]:
+            """The levels of the annotations."""
+            lines = made(servers.github, findings, summary, **more).splitlines()
+            return [it.split()[0] for it in lines if it.startswith("::")]
+
+        self.assertEqual(levels(exponential(), cubic()), ["::error", "::error"])
+        self.assertEqual(levels(cubic(state=WARNED), exponential(state=WARNED)), ["::warning", "::warning"])
+        self.assertEqual(levels(refused(), undecided(), exponential(state=ACCEPTED), all=True), ["::notice"] * 3)
+        self.assertEqual(levels(refused(), undecided(), strict=True), ["::error"] * 2)
+        self.assertEqual(levels(refused(), exponential(state=ACCEPTED), strict=True, all=True), ["::error", "::notice"])
+        files = NotLooked("b.py", "it isn't UTF-8", fails=True), NotLooked("c.py", "it is a link")
+        lost = replace(SUMMARY, not_looked=files)
+        self.assertEqual(levels(summary=lost), ["::error"])
+        self.assertEqual(levels(summary=lost, strict=True), ["::error", "::error"])
+        self.assertIn("::error file=b.py::not looked at: it isn't UTF-8", made(servers.github, [], lost))
 
     def test_github_names_accepts_and_the_configuration_in_their_places(self) -> None:
         summary = replace(SUMMARY, added_accepts=(("acc.json", 3, "why"),), narrowed=(Narrowed("p.toml", "exclude"),))
         text = made(servers.github, [refused()], summary, strict=True)
         self.assertIn("::notice file=acc.json,line=3::this change accepts a finding: why", text)
         self.assertIn("::notice file=p.toml::configuration: exclude narrows this check", text)
-        self.assertIn("::notice file=app.py,line=9,col=5,title=relint RLT201::not judged (lookaround", text)
+        self.assertIn("::error file=app.py,line=9,col=5,title=relint RLT201::not judged (lookaround", text)
 
     def test_a_command_can_not_be_forged(self) -> None:
         entry = replace(exponential().entry, path="a,line=1::x%0A::error::\n::y")

@@ -20,7 +20,7 @@ SCREEN = r"""app.py:2:19: RLT100 exponential: a text of 30 characters keeps this
           text    0 0 0
           way 1   A A A|A     a bar is a new round of (\w+,?)*
           way 2   A|A|A
-  try:  python3 -I -c 'import re; re.search(r"^(\w+,?)*$", "0" * 29 + " ")'
+  try:  python3 -I -c 'import re; re.search(r"^(\w+,?)*$", "0" * 29 + " ")'  # Ctrl-C stops it
   fix:  r"^(?:(?:\w+,)*(\w+,?))?$"    linear, and finds the same (proved)
 
 app.py:5:22: RLT103 cubic: a text of 1,600 characters keeps this search busy for about 20 seconds
@@ -28,11 +28,10 @@ app.py:5:22: RLT103 cubic: a text of 1,600 characters keeps this search busy for
     |                        A~  B~
   why:  a run of tabs is shared out between \s+ and .+, from each place at which the search may begin
           text    ⇥ ⇥ ⇥ ⇥
-          way 1   A A A A
-          way 2   A A A B
-          ...
-          way 5   B B B B
-  try:  python3 -I -c 'import re; re.search(r"\s+(.+), subnet", "\t" * 1600)'
+          way 1   A A A B
+          way 2   A A B B
+          way 3   A B B B
+  try:  python3 -I -c 'import re; re.search(r"\s+(.+), subnet", "\t" * 1600)'  # Ctrl-C stops it
   fix:  r"\s+(\S.*|[^\S\n]), subnet"    quadratic, and finds the same (proved)
 
 2 findings in 1 file: 1 exponential, 1 cubic. Both can be fixed: rlt fix
@@ -167,10 +166,24 @@ class Rows(unittest.TestCase):
 
     def test_a_skip_is_a_dot(self) -> None:
         reading = Reading("ab", ((step(None),) * 2, (step((0, 1)),) * 2, (step((0, 1)),) * 2), None, (None, (0, 2)))
-        self.assertEqual(terminal.rows(reading)[1], ("way 1", "· · · · · ·"))
+        self.assertEqual(terminal.rows(reading)[1:], [
+            ("way 1", "· · · · A A"), ("way 2", "· · A A A A"), ("way 3", "A A A A A A")])
         finding = cubic(why=Why((reading,)))
         self.assertIn("a dot is a character that the search skips", "\n".join(shown([finding])))
         self.assertIn(r'a run of "ab" is taken by \s, from each place', "\n".join(shown([finding])))
+
+    def test_each_part_takes_something_in_each_way(self) -> None:
+        one, two = step((0, 2)), step((4, 5))
+        for text in ("a", "ab", "abc" * 5):
+            size = len(text)
+            ways = ((one,) * size, (two,) * size, (two,) * size)
+            drawn = terminal.drawn(cubic(why=Why((Reading(text, ways, None, ((0, 3), (4, 6))),))))
+            assert drawn is not None
+            rows = [row for name, row in terminal.rows(drawn) if name.startswith("way")]
+            self.assertGreater(len(rows), 1)
+            self.assertTrue(all({"A", "B"} == set(it) - {" "} for it in rows), rows)
+        four = Reading("a", ((step(None),), (one,), (one,)), None, (None, (0, 3)))
+        self.assertEqual([name for name, _ in terminal.rows(four)], ["text", "way 1", "way 2", "...", "way 4"])
 
     def test_a_run_of_one_character_is_drawn_with_one(self) -> None:
         loops, (one, two) = ((0, 2), (3, 5)), (step((0, 1)), step((3, 4)))

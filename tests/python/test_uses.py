@@ -368,7 +368,6 @@ class Importers(unittest.TestCase):
     def test_uses_name_their_file(self) -> None:
         found = used({"a/m.py": X, "a/n.py": "import m\nm.X.search(s)\n"}, "a/m.py")
         self.assertEqual([(it.path, it.line) for it in found.uses], [("a/m.py", 3), ("a/n.py", 2)])
-        self.assertTrue(found.is_public)
 
     def test_parts_of_a_module(self) -> None:
         self.assertEqual(module_parts("a/b.py")[-2:], ("a", "b"))

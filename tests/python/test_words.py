@@ -2,6 +2,7 @@
 from __future__ import annotations
 
 import ast
+import json
 import os
 import random
 import re
@@ -168,7 +169,7 @@ class Explained(unittest.TestCase):
 
     def test_rules_causes_and_pages(self) -> None:
         self.assertRegex(words.explained("rlt100") or "", "^# RLT100: exponential pattern\n\n")
-        self.assertRegex(words.explained("RLT142") or "", "^# RLT142: polynomial pattern\n")
+        self.assertRegex(words.explained("RLT142") or "", "^# RLT142: quadratic, cubic and the like\n")
         self.assertRegex(words.explained("RLT400") or "", "^# RLT400: beyond relint's profile\n")
         self.assertRegex(words.explained("lookaround") or "", "^lookaround: a lookahead")
         self.assertRegex(words.explained("pairs") or "", "RLT200")
@@ -185,9 +186,29 @@ class Explained(unittest.TestCase):
     def test_addresses(self) -> None:
         with mock.patch.dict(os.environ, {words.ADDRESS: "https://x.org/docs/"}):
             self.assertEqual(words.address_of("RLT100"), "https://x.org/docs/RULES.md#rlt100-exponential-pattern")
-        for wrong in ("", "javascript:x", "https://a b", "https://a\n::error::"):
+        for wrong in ("", "javascript:x", "https://a b", "https://a\n::error::", "https://github.com//blob//docs"):
             with mock.patch.dict(os.environ, {words.ADDRESS: wrong}):
                 self.assertEqual(words.address_of("RLT100"), "")
+
+    def test_the_repository_that_pip_noted(self) -> None:
+        def address(url: str, **more: str) -> str:
+            """The address of a rule, if pip installed the package from a repository."""
+            noted = json.dumps({"url": url, "vcs_info": {"vcs": "git", "commit_id": "12ab", **more}})
+            said = mock.Mock(read_text=lambda _: noted)
+            words._repository.cache_clear()
+            try:
+                with mock.patch("importlib.metadata.distribution", return_value=said):
+                    return words.address_of("RLT100")
+            finally:
+                words._repository.cache_clear()
+
+        end = "docs/RULES.md#rlt100-exponential-pattern"
+        with mock.patch.dict(os.environ, {words.ADDRESS: ""}):
+            self.assertEqual(address("https://github.com/a/relint.git"), f"https://github.com/a/relint/blob/12ab/{end}")
+            self.assertEqual(address("https://gitlab.org/a/b"), f"https://gitlab.org/a/b/-/blob/12ab/{end}")
+            for wrong in ("file:///github", "https://example.org/a", "https://github.com/a b", "https://u:p@github.com/a"):
+                self.assertEqual(address(wrong), "", wrong)
+            self.assertEqual(address("https://github.com/a/b", commit_id="1\n2"), "")
 
 
 if __name__ == "__main__":

@@ -210,13 +210,11 @@ class Use:
 class Uses:
     """The uses of a pattern. If `lost` isn't "", they aren't all known, and it says why in a clause.
 
-    `is_public` says that a name without a leading underscore holds the pattern, so that code outside may use it too, and
-    `is_read` that the code reads the pattern or its flags.
+    `is_read` says that the code reads the pattern or its flags.
     """
 
     uses: Tuple[Use, ...] = ()
     is_read: bool = False
-    is_public: bool = False
     lost: str = ""
 
 
@@ -253,27 +251,30 @@ class Reading:
 
 @dataclass(frozen=True)
 class Why:
-    """Why a pattern costs what it costs: one reading for an exponential one, one for each split of a degree.
-
-    `loop` is the loop on which the longest texts go round, for a degree.
-    """
+    """Why a pattern costs what it costs: one reading for an exponential one, one for each split of a degree."""
 
     readings: Tuple[Reading, ...] = ()
-    loop: Optional[Span] = None
+
+    @property
+    def drawn(self) -> Optional[Reading]:
+        """The reading that is drawn: of an exponential pattern, or the last one of two loops, if there is one."""
+        inner = [it for it in self.readings if it.parts is not None or None not in it.loops]
+        return next(iter((inner or list(self.readings))[-1:]), None)
 
 
 @dataclass(frozen=True)
 class Growth:
-    """A text that shows the cost: text `k` of the family, its length, and its steps, counted or (`about`) worked out.
+    """A text that shows the cost: text k of a family, its length, and its steps, which were counted.
 
-    `factor` is how much the steps grow by with one pump more, for an exponential pattern.
+    `factor` is by how much the steps grow with one pump more, for an exponential pattern. `family` is None if it is that of
+    the class.
     """
 
     k: int
     length: int
     steps: int
-    about: bool = False
     factor: Optional[float] = None
+    family: Optional[Family] = None
 
 
 @dataclass(frozen=True)
@@ -282,8 +283,8 @@ class Offer:
 
     A fix is no finding any more, and the code can't notice it; what is better is still a finding; advice changes what a group
     holds or which texts match, as `differs` says in one clause. `literal` is how the new pattern is written in the source.
-    `proof` is "proved" if the programs proved what is said, and "checked" if only trials were made. `hard_to_read` marks a
-    pattern that is right but long.
+    `proof` is "proved" if the programs proved what is said, and "checked" if only trials were made. `unread` says in a clause
+    which part of a match may be another one, as no use reads it. `hard_to_read` marks a pattern that is right but long.
     """
 
     kind: str
@@ -295,6 +296,7 @@ class Offer:
     rule: str = ""
     hard_to_read: bool = False
     needs: str = ""
+    unread: str = ""
 
 
 @dataclass(frozen=True)

@@ -59,6 +59,8 @@ LIMITS = {
     "sets": "too many sets of places were tried in vain",
     "pairs": "too many pairs of places",
 }
+# What is said of a fix where the code sees only whether there is a match.
+UNREAD = "nothing here reads more"
 LAWS = {"search-costs-its-match": "by its match", "one-degree-more": "by its match"}
 BY_ASK = "proved by relint-ask, beyond relint's profile"
 
@@ -208,9 +210,11 @@ def offer_words(offer: Offer) -> str:
     if offer.kind == "advice":
         said = f"{class_word(offer.verdict)}; {offer.differs or 'it matches other texts'}"
     else:
-        said = f"{class_word(offer.verdict)}, {'still a finding; ' if offer.kind == 'better' else 'and '}finds the same"
-    said += f" ({offer.proof})" + ("; right, but hard to read" if offer.hard_to_read else "")
-    return visible(said + (f"; needs {offer.needs}" if offer.needs else ""))
+        same = "matches the same texts" if offer.unread == UNREAD else "finds the same"
+        said = f"{class_word(offer.verdict)}, {'still a finding; ' if offer.kind == 'better' else 'and '}{same}"
+    said += f" ({offer.proof})"
+    more = (offer.unread, "right, but hard to read" * offer.hard_to_read, f"needs {offer.needs}" if offer.needs else "")
+    return visible("; ".join([said, *filter(None, more)]))
 
 
 # ---- Python code
@@ -244,12 +248,16 @@ def flag_letters(flags: Optional[int]) -> str:
     return "".join(it for it in sorted(FLAGS) if (flags or 0) & FLAGS[it]).lower()
 
 
+def root_of(text: Text) -> Text:
+    """Returns the shortest text of which this one is copies."""
+    return text[:(text + text).find(text, 1)] if text else text  # type: ignore[operator,arg-type]
+
+
 def text_code(family: Family, k: int) -> str:
     """Returns a short Python expression for text k of a family, such as `"0" * 29 + " "`."""
     parts: List[Tuple[Text, int]] = [(family.heads[0], 1)]
     for pump, head in zip(family.pumps, family.heads[1:]):
-        # (the shortest text of which the pump is copies)
-        root = pump[:(pump + pump).find(pump, 1)] if pump else pump  # type: ignore[operator,arg-type]
+        root = root_of(pump)
         count = k * (len(pump) // len(root) if root else 0)
         before, times = parts.pop()
         while root and times == 1 and before.endswith(root):  # type: ignore[arg-type]
@@ -272,7 +280,7 @@ def try_code(finding: Finding) -> str:
     if finding.seen is not None and finding.seen.family is not None:
         family, k = finding.seen.family, finding.seen.k
     elif finding.growth is not None:
-        k = finding.growth.k
+        family, k = finding.growth.family or family, finding.growth.k
     if site is None or site.flags is None or family is None or not k:
         return ""
     flags = " | ".join(f"re.{it}" for it in flag_letters(site.flags).upper())
@@ -290,8 +298,10 @@ def try_line(finding: Finding) -> str:
 
 HERE = os.path.dirname(os.path.realpath(__file__))
 RULES_PAGE = "rules"
-# The variable with the address of the folder of pages, for links.
-ADDRESS = "RELINT_PAGES"
+# The variable with the address of the folder of pages, for links, and an address that may be one.
+ADDRESS, WEB = "RELINT_PAGES", re.compile(r"https://(?:[!-.0-~]+/)*[!-.0-~]+/?")
+# The servers whose files have such addresses: a part of the server's name, and what stands before the commit.
+BLOBS = {"github": "blob", "gitlab": "-/blob"}
 
 
 def pages() -> Dict[str, str]:
@@ -330,10 +340,29 @@ def rule_text(code: str) -> Optional[Tuple[str, str]]:
 
 
 def address_of(code: str) -> str:
-    """Returns the address of the page about a rule, if the variable ADDRESS says where the pages are, otherwise ""."""
-    top = os.environ.get(ADDRESS, "")
+    """Returns the address of the page about a rule, or "" if nothing says where the pages are.
+
+    The variable ADDRESS says it or, if pip installed this from a repository, what pip noted.
+    """
+    named = os.environ.get(ADDRESS, "")
+    top = named if WEB.fullmatch(named) else _repository()
     anchor = re.sub("[^a-z0-9 -]", "", _section(code)[0].lower()).replace(" ", "-")
-    return f"{top.rstrip('/')}/RULES.md#{anchor}" if re.fullmatch(r"https://[!-~]+", top) and code in RULES else ""
+    return f"{top.rstrip('/')}/RULES.md#{anchor}" if top and code in RULES else ""
+
+
+@lru_cache(maxsize=None)
+def _repository() -> str:
+    """The address of the pages in the repository on a web server from which pip installed this; "" if it is none."""
+    metadata = importlib.import_module("importlib.metadata")
+    try:
+        noted = importlib.import_module("json").loads(metadata.distribution("relint").read_text("direct_url.json") or "{}")
+        url, commit = str(noted["url"]), str(noted["vcs_info"]["commit_id"])
+    except (metadata.PackageNotFoundError, OSError, ValueError, LookupError, TypeError):
+        return ""
+    server = url[8:].partition("/")[0]
+    middle = next((it for name, it in BLOBS.items() if name in server), "")
+    top = f"{url[:-4] if url.endswith('.git') else url.rstrip('/')}/{middle}/{commit}/docs"
+    return top if middle and "@" not in server and WEB.fullmatch(top) else ""
 
 
 def explained(topic: str) -> Optional[str]:

@@ -286,13 +286,6 @@ def is_test(path: str) -> bool:
 
 # Offsets.
 
-def inner_span(literal: Literal) -> Tuple[int, int]:
-    """Returns the offsets where the part between a literal's quotes begins and ends."""
-    found = LITERAL.match(literal.text)
-    quote = len(found.group(2)) if found else 0
-    return literal.start + (found.end() if found else 0), literal.end - quote
-
-
 def offsets_of(literals: Sequence[Literal], value: Text) -> Tuple[int, ...]:
     """Returns the offset in the source of each character of a pattern, and of the last literal's closing quote.
 

@@ -95,7 +95,8 @@ def offer_of(site: Site, cure: Cure, max_degree: int) -> Offer:
         literal = quoted(cure.pattern)
     differs = cure.differs or (HARD if cure.hard_to_read else "")
     proof, needs = ("proved", "") if cure.is_proved else ("checked", "" if cure.differs else "Python 3.11")
-    return Offer(kind, cure.pattern, literal, cure.verdict, proof, differs, "+".join(cure.steps), cure.hard_to_read, needs)
+    return Offer(kind, cure.pattern, literal, cure.verdict, proof, differs, "+".join(cure.steps), cure.hard_to_read, needs,
+                 cure.unread)
 
 
 def close() -> None:

@@ -18,7 +18,7 @@ from functools import lru_cache
 from typing import Any, Dict, FrozenSet, Iterator, List, Mapping, NamedTuple, Optional, Sequence, Set, Tuple
 
 from ..base.model import MODES, Text, Verdict
-from ..base.words import quoted
+from ..base.words import UNREAD, quoted
 from ..engine.ask import Asker, as_text, letters, pair
 from ..engine.engine import ReportError, read_text
 from ..trials.trial import GROUPS_TOO, OTHER, SPANS_TOO, TEXTS_ALONE
@@ -86,6 +86,7 @@ class Cure:
 
     If `differs` is "", the code can't notice it; otherwise it says in a clause what the code may see. `rank` orders these:
     groups before positions, spans, and texts. `verdict` is its class in the worst mode, and `top` the rank of its worst class.
+    `unread` is what may differ without that the code notices it, as a clause says.
     """
 
     pattern: Text
@@ -96,6 +97,7 @@ class Cure:
     hard_to_read: bool = False
     top: int = 0
     is_proved: bool = True
+    unread: str = ""
 
 
 class Proposal(NamedTuple):
@@ -459,8 +461,9 @@ class Search:
                 kinds, count = self.kinds([short])
                 if kinds[0] <= self.how.goal() and count > TRIED // 2:
                     differs = "" if self.how.has_atomic else LONG_LOOK
+                    unread = self.unread(self.pattern.encoded(long))
                     self.best["checked"] = (0,), Cure(self.pattern.encoded(short), verdicts[0], differs, 0, ("stop-at-word",),
-                                                      top=top, is_proved=False)
+                                                      top=top, is_proved=False, unread=unread)
                     return
 
     def stopped(self, items: Sequence[Node], places: Sequence[Tuple[int, List[int]]], is_short: bool) -> str:
@@ -523,7 +526,29 @@ class Search:
         self.begin(1, TRIED)
         kinds = self.kinds([as_text(it.pattern) for it in cures])[0]
         wanted = {0: self.how.goal(), 1: SPANS_TOO, 2: TEXTS_ALONE, 3: TEXTS_ALONE, MISSED: OTHER}
-        return [it for it, kind in zip(cures, kinds) if kind <= wanted[it.rank] or it.rank == MISSED]
+        kept = [it for it, kind in zip(cures, kinds) if kind <= wanted[it.rank] or it.rank == MISSED]
+        return [it if it.differs or not it.is_proved else replace(it, unread=self.unread(it.pattern)) for it in kept]
+
+    def unread(self, new: Text) -> str:
+        """Returns in a clause which part of a match may be another one, as the code doesn't read it; "" if none may be.
+
+        The code can't notice the pattern `new`.
+        """
+        modes = {"fullmatch" if it == "fullmatch" else "search" for it in self.how.methods}
+
+        def is_same(groups: bool) -> bool:
+            """Whether both patterns find the same in every way of calling them, with or without groups."""
+            asked = [pair("spans", self.original, new, self.how.flags, mode=it, groups=groups) for it in sorted(modes)]
+            return all(it.get("answer") == "same" for it in self.asker.ask_all(asked))
+
+        if is_same(True):
+            return ""
+        if self.how.only_truth():
+            return UNREAD
+        groups = "the group" if len(self.pattern.tree.facts.groups) == 1 else "the groups"
+        if self.how.sees != "groups" and self.pattern.tree.facts.groups:
+            return f"nothing here reads {groups}" + ("" if self.how.position or is_same(False) else " or gives a position")
+        return "" if self.how.position else "no call here gives a position"
 
     def laid_out(self, cure: Cure) -> Cure:
         """Returns the cure with the blanks and comments of the pattern, if it is proved to be the same cure."""

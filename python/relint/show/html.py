@@ -125,7 +125,8 @@ def card(finding: Finding, summary: Summary, number: int) -> str:
     ]
     command = try_line(finding)
     if command:
-        parts.append(f'<h3>Try it</h3><pre tabindex="0"><code id="t{number}">{escape(escaped(command))}</code></pre>'
+        parts.append('<h3>Try it (Ctrl-C stops it)</h3>'
+                     f'<pre tabindex="0"><code id="t{number}">{escape(escaped(command))}</code></pre>'
                      f'<button type="button" hidden data-copies="t{number}">Copy</button>')
     parts += [_offer(finding, it) for it in finding.offers]
     return "".join([*parts, "</article>"])

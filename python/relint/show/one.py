@@ -54,7 +54,7 @@ def pattern(options: Options) -> int:
         answers = asker.ask_all([question("class", text, flags, mode=it, pairs=options.max_pairs) for it in MODES])
         finding = _finding(text, flags, dict(zip(MODES, answers)), options)
         run = Run(options, Chosen(".", (".",)), None, asker, deadline, steps_a_second=rate.kept())
-        found = growth.explained(growth.grown([finding], run), run)[0]
+        found = growth.told([finding], run)[0]
         if finding.state != OTHER:
             found = replace(found, offers=offers.offers(found, run))
     summary = Summary(patterns=1, steps_a_second=run.steps_a_second)

@@ -13,16 +13,17 @@ from typing import Any, Dict, Iterable, Iterator, Optional, Sequence, Tuple
 from urllib.parse import quote
 
 from ..base.model import (
-    ACCEPTED, IGNORED, KNOWN, OTHER, PROVED, UNUSED, Bound, Entry, Family, Finding, Place, Summary, Verdict,
+    ACCEPTED, IGNORED, KNOWN, NEW, OTHER, PROVED, UNUSED, Bound, Entry, Family, Finding, Place, Summary, Verdict,
 )
 from ..base.safe import SERVER_COMMAND, line, visible
 from ..base.words import (
-    RULES, address_of, class_word, danger, flag_letters, offer_words, outcome, quoted, rule_of, rule_text, try_line,
+    CAUSES, RULES, address_of, class_word, danger, flag_letters, offer_words, outcome, quoted, rule_of, rule_text, try_line,
 )
 from ..options import Options
 from ..stages.accept import key_of
 from .terminal import (
-    accepts, class_of, drawn, facts, is_open, is_shown, line_starts, other_words, others, result, rows, why_words, worst_first,
+    CTRL_C, accepts, class_of, drawn, facts, is_open, is_shown, line_starts, other_words, others, result, rows, why_words,
+    worst_first,
 )
 
 NAME, SCHEMA = "relint", "https://json.schemastore.org/sarif-2.1.0.json"
@@ -53,15 +54,16 @@ def _message(finding: Finding, summary: Summary) -> str:
     parts += [f"{it.kind}: put {visible(it.literal)} in its place    {offer_words(it)}" for it in finding.offers]
     parts += [] if finding.offers else ["fix: none was found; rlt explain fixing shows how such patterns are rewritten"]
     code = try_line(finding)
-    parts += [f"try: {code}"] if code else []
-    return "\n".join([*parts, address_of(rule_of(finding)) or f"more: rlt explain {rule_of(finding)}"])
+    parts += [f"try: {code}  {CTRL_C}"] if code else []
+    return "\n".join([*parts, f"more: {address_of(rule_of(finding)) or f'rlt explain {rule_of(finding)}'}"])
 
 
-def _stand_in(finding: Finding) -> str:
-    """Says in brackets that words stand for parts of a pattern that aren't known, or that it is in a test."""
+def _remarks(finding: Finding) -> str:
+    """Says in brackets why a finding isn't accepted, that words stand for unknown parts of it, or that it is in a test."""
     site = finding.site
-    is_said = site is not None and (site.stands_in or site.in_tests)
-    return f" ({'; '.join(visible(it) for it in site.said)})" if site is not None and is_said else ""
+    said = [finding.reason] * bool(finding.reason)
+    said += site.said if site is not None and (site.stands_in or site.in_tests) else ()
+    return f" ({'; '.join(map(visible, said))})" if said else ""
 
 
 def _prints(findings: Iterable[Finding]) -> Iterator[Tuple[Finding, str]]:
@@ -78,7 +80,7 @@ def _prints(findings: Iterable[Finding]) -> Iterator[Tuple[Finding, str]]:
 def concise(findings: Sequence[Finding], summary: Summary, options: Options) -> Iterator[str]:
     """Yields a line for each finding, and the last lines."""
     for it in summary.clock.within(worst_first(findings)):
-        yield f"{_place(it)}: {rule_of(it)} {danger(it, summary.steps_a_second)}{_stand_in(it)}"
+        yield f"{_place(it)}: {rule_of(it)} {danger(it, summary.steps_a_second)}{_remarks(it)}"
     rest = summary.clock.within(others(findings, options))
     yield from (f"{_place(it)}: {rule_of(it)} {other_words(it)}" for it in rest)
     yield result(findings)
@@ -92,11 +94,16 @@ def _place(finding: Finding) -> str:
 
 
 def github(findings: Sequence[Finding], summary: Summary, options: Options) -> Iterator[str]:
-    """Yields an annotation for each finding, and for each accept that the change adds; then the last lines."""
+    """Yields an annotation for each finding, and for each accept that the change adds; then the last lines.
+
+    An error is what fails the run, and nothing else.
+    """
     for it in summary.clock.within(worst_first(findings)):
-        yield annotation("error" if _level(it) == "error" else "warning", it, _message(it, summary))
+        yield annotation("error" if it.state == NEW else "warning", it, _message(it, summary))
     for it in summary.clock.within(others(findings, options)):
-        yield annotation("notice", it, other_words(it))
+        yield annotation("error" if options.strict and is_open(it, options) else "notice", it, other_words(it))
+    for lost in summary.clock.within([it for it in summary.not_looked if it.fails or options.strict]):
+        yield command("error", [("file", lost.path)], f"not looked at: {CAUSES.get(lost.why, lost.why)}")
     for path, at, why in summary.added_accepts:
         yield command("notice", [("file", path), ("line", str(at))], accepts(why, options))
     for narrowed in summary.narrowed or options.narrowed:
@@ -134,7 +141,7 @@ def gitlab(findings: Sequence[Finding], summary: Summary, options: Options) -> I
         words, more = other_words(it), {}
         if is_shown(it):
             fixes = [f"; {offer.kind}: {visible(offer.literal)}" for offer in it.offers[:1]]
-            words = f"{danger(it, summary.steps_a_second)}{_stand_in(it)}{''.join(fixes)}"
+            words = f"{danger(it, summary.steps_a_second)}{_remarks(it)}{''.join(fixes)}"
             more = {"severity": severities[_level(it)], "content": {"body": _message(it, summary)}}
         issues.append({**_issue(rule_of(it), words, print_of_it, (it.entry.path, it.place.line)), **more})
     accepted = [(path, at, accepts(why, options)) for path, at, why in summary.added_accepts]

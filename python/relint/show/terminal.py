@@ -19,11 +19,13 @@ from ..base.words import (
 from ..engine.ask import as_text
 from ..options import Options
 
-MOST_LINES, MOST_NAMED, MOST_COLUMNS, MOST_PATTERN, TAB = 8, 5, 30, 200, 4
+MOST_LINES, MOST_NAMED, MOST_COLUMNS, MOST_COPIED, MOST_PATTERN, TAB = 8, 5, 30, 15, 200, 4
 COLOURS = {"error": "1;31", "warning": "1;33", "place": "1", "dim": "2", "mark": "1;36", "good": "32"}
 UNSEEN = "\N{REPLACEMENT CHARACTER}"
 SHOWN = {" ": "\u2423", "\n": "\u2424", "\t": "\u21e5", "\r": "\u240d"}
 RUNS = {" ": "blanks", "\n": "line ends", "\t": "tabs", "\r": "carriage returns"}
+# (a comment for a shell, so that the whole line can be pasted)
+CTRL_C = "# Ctrl-C stops it"
 DOT, LETTERS = "\u00b7", "ABCDEFGHIJKLMNOPQRSTUVWXYZ"
 # The parts of a pattern that rows name, by their spans, with their letters.
 Letters = Dict[Span, str]
@@ -55,12 +57,12 @@ def _shown(character: str) -> str:
 
 def drawn(finding: Finding) -> Optional[Reading]:
     """Returns the reading to draw: of an exponential pattern, or the last one of two loops; None if it is too long."""
-    readings = finding.why.readings if finding.why else ()
-    inner = [it for it in readings if it.parts is not None or None not in it.loops]
-    found = (inner or list(readings))[-1:]
-    fits = [it for it in found if 0 < len(it.text) <= MOST_COLUMNS and len(_places(it)) <= len(LETTERS)]
-    whole = [it for it in fits if {len(way) for way in it.ways} == {len(it.text)} and len(it.ways) == (3 if it.loops else 2)]
-    return _short(whole[0]) if whole else None
+    found = finding.why.drawn if finding.why is not None else None
+    if found is None or len(_places(found)) > len(LETTERS):
+        return None
+    is_whole = {len(way) for way in found.ways} == {len(found.text)} and len(found.ways) == (3 if found.loops else 2)
+    fits = is_whole and 0 < len(found.text) <= (MOST_COPIED if found.loops else MOST_COLUMNS)
+    return _short(found) if fits else None
 
 
 def _short(reading: Reading) -> Reading:
@@ -99,21 +101,25 @@ def _begins(step: Step, loop: Optional[Span]) -> bool:
 
 
 def rows(reading: Reading) -> List[Tuple[str, str]]:
-    """Returns the rows of a reading, each with its name and its text: the text, then the ways, of a degree at most three."""
+    """Returns the rows of a reading, each with its name and its text: the text, then the ways, of a degree at most three.
+
+    In a way of a degree, each of the two parts takes something; only the search may skip nothing.
+    """
     letters, text = letters_of(reading), as_text(reading.text)
     if not reading.loops:
         bar, last = bar_of(reading), reading.ways[0][-1]
         ways = [[Step(last.place), *way] for way in reading.ways]
         return [("text", _row(text[-1] + text))] + [(f"way {at}", _row(text[-1] + text, it, letters, bar)) for at, it in
                                                     enumerate(ways, 1)]
-    copies = 4 if len(text) == 1 else 3 if len(text) == 2 else 2
+    copies = 4 if len(text) == 1 else 3
+    most = copies if reading.loops[0] is None else copies - 1
     before, over, behind = (list(it) for it in reading.ways)
     found = [("text", _row(text * copies))]
-    for at in range(copies + 1):
-        way = before * (copies - at) + (over + behind * (at - 1) if at else [])
-        if at in (0, 1, copies):
-            found += [("...", "")] if at == copies > 2 else []
-            found.append((f"way {at + 1}", _row(text * copies, way, letters)))
+    for at in range(1, most + 1):
+        if at in (1, 2, most):
+            found += [("...", "")] if at == most > 3 else []
+            way = before * (copies - at) + over + behind * (at - 1)
+            found.append((f"way {at}", _row(text * copies, way, letters)))
     return found
 
 
@@ -320,7 +326,7 @@ def _details(finding: Finding) -> Iterator[Tuple[str, str]]:
         yield "why", growth_words(finding.verdict)
     code = try_line(finding)
     if code:
-        yield "try", code
+        yield "try", f"{code}  {CTRL_C}"
     for offer in finding.offers:
         yield offer.kind, f"{visible(offer.literal)}    {offer_words(offer)}"
 

@@ -102,7 +102,7 @@ def record(options: Options) -> Tuple[List[Finding], Summary, int]:
         run = Run(options, Chosen(".", (".",)), None, asker, asker.deadline, steps_a_second=rate.kept())
         if options.trials:
             findings = confirming.hangs(findings, asker, limits_of(options, asker.deadline), options.max_degree)
-        findings = growth.explained(growth.grown(findings, run), run)
+        findings = growth.told(findings, run)
     made = ", ".join(f"{count:,} by {name}" for name, count in recording.counted_by_engine(noted.found)) or "none"
     processes = counted(noted.processes, "process", "processes")
     notes = [f"the program ended with status {ended}; patterns that {processes} made: {made}"]

@@ -9,13 +9,14 @@ from __future__ import annotations
 
 import json
 import os
+import shlex
 from dataclasses import dataclass, replace
 from functools import lru_cache
-from typing import Any, Dict, FrozenSet, List, Mapping, NamedTuple, Optional, Sequence, Set, Tuple
+from typing import Any, Dict, FrozenSet, Iterable, List, Mapping, NamedTuple, Optional, Sequence, Set, Tuple
 
 from ..base.model import ACCEPTED, IGNORED, KNOWN, NEW, OTHER, WARNED, Finding
 from ..base.safe import OpenError, WriteError, is_below, read_below, replace_file, visible
-from ..base.words import flag_letters, quoted, rule_of
+from ..base.words import class_word, flag_letters, quoted, rule_of
 from ..options import Options
 
 MOST_BYTES, MOST_ROWS, LONGEST_REASON = 16_777_216, 100_000, 1000
@@ -24,6 +25,7 @@ KEYS = ("path", "function", "pattern", "flags", "mode", "class", "reason", "who"
 NEEDED = ("path", "pattern", "mode", "class")
 EXPONENTIAL, UNDECIDED, REFUSED = "exponential", "undecided", "refused"
 OWN_ACCEPT = "this change accepts it itself, which doesn't count before a maintainer has merged {}"
+OLD_NAME = "accepted {}; rlt accept {} --reason {} moves that"
 OWN_IGNORE = "its noqa comes with this change, so it doesn't count: a maintainer can rlt accept {}"
 
 # A pattern as a literal, the letters of its flags, its mode, and the function around it: what stays if lines or files move.
@@ -104,11 +106,15 @@ def _relative(path: str, folder: str) -> str:
 
 
 class Split(NamedTuple):
-    """Findings with their states. `unused` are the entries that accept nothing; `moved` has new entries for old ones."""
+    """Findings with their states. `unused` are the entries that accept nothing; `moved` has new entries for old ones.
+
+    `renamed` has the entry that accepts the pattern of a finding, by its number, in another function of its file.
+    """
 
     findings: List[Finding]
     unused: List[Row]
     moved: Dict[Row, Row]
+    renamed: Dict[int, Row]
 
 
 def key_of(finding: Finding) -> Optional[Key]:
@@ -126,6 +132,11 @@ def class_of(finding: Finding) -> str:
         return REFUSED
     rank = verdict.rank()
     return UNDECIDED if rank < 0 else EXPONENTIAL if rank == 1_000_000 else f"degree {rank}"
+
+
+def class_words(finding: Finding) -> str:
+    """Returns the class of a finding for people, such as "cubic"."""
+    return class_word(finding.verdict) if finding.verdict is not None else "not judged"
 
 
 def _rank(cost: str) -> int:
@@ -232,7 +243,7 @@ def split(findings: Sequence[Finding], accepted: Accepted, options: Options) -> 
 
     Entries of the same file come first, then those whose pattern is gone from their file, then those whose pattern was
     replaced in its function by one of a better class. With locked entries, a finding that the change itself accepts stays
-    new, and its `reason` says so.
+    new, and its `reason` says so; one that was accepted in another function of its file has that as `reason`.
     """
     answer, moved, done = list(findings), {}, set()
     rows = _Rows(accepted, {(accepted.path_of(it), key_of(it)) for it in findings})
@@ -251,7 +262,20 @@ def split(findings: Sequence[Finding], accepted: Accepted, options: Options) -> 
     added = {it.key for it in accepted.added} if accepted.locked else set()
     for at in (it for it in waiting if it not in done and answer[it].state != KNOWN and key_of(answer[it]) in added):
         answer[at] = replace(answer[at], reason=OWN_ACCEPT.format(visible(accepted.file)))
-    return Split(answer, rows.unused(), {old: new for old, new in moved.items() if old != new})
+    unused, renamed = rows.unused(), {}
+    for at in (it for it in waiting if it not in done and answer[it].state in (NEW, WARNED) and not answer[it].reason):
+        row = rows.renamed(answer[at])
+        if row is not None:
+            renamed[at] = row
+            answer[at] = replace(answer[at], reason=_old_name(answer[at], row))
+    return Split(answer, unused, {old: new for old, new in moved.items() if old != new}, renamed)
+
+
+def _old_name(finding: Finding, row: Row) -> str:
+    """What is said of a finding that was accepted in another function: the command that moves the acceptance."""
+    under = f"under its old name, {row.function}" if row.function else "when it stood outside functions"
+    place = f"{visible(finding.entry.path)}:{finding.place.line}:{finding.place.column}"
+    return OLD_NAME.format(under, shlex.quote(place), shlex.quote(row.reason) if row.reason else "WORDS")
 
 
 class _Rows:
@@ -264,12 +288,14 @@ class _Rows:
         self.by_place: Dict[Any, List[int]] = {}
         self.by_key: Dict[Any, List[int]] = {}
         self.by_function: Dict[Any, List[int]] = {}
+        self.by_pattern: Dict[Any, List[int]] = {}
         files = {path for path, _ in here}
         for at in sorted(range(len(accepted.rows)), key=lambda it: _rank(accepted.rows[it].cost)):
             row = accepted.rows[at]
             self.by_place.setdefault((row.path, row.key), []).append(at)
             if (row.path, row.key) not in here:
                 self.by_function.setdefault((row.path, row.mode, row.function), []).append(at)
+                self.by_pattern.setdefault((row.path, row.key[:3]), []).append(at)
                 if row.path in files or not os.path.lexists(os.path.join(accepted.folder, row.path)):
                     self.by_key.setdefault(row.key, []).append(at)
 
@@ -286,6 +312,11 @@ class _Rows:
         function = finding.site.function if finding.site else ""
         name = self.accepted.path_of(finding), finding.mode, function
         return self._taken(self.by_function.get(name, []), finding, 1) if _rank(class_of(finding)) >= 0 else None
+
+    def renamed(self, finding: Finding) -> Optional[Row]:
+        """Takes an entry of the finding's file, pattern, flags and mode that is gone from its function."""
+        key = key_of(finding)
+        return self._taken(self.by_pattern.get((self.accepted.path_of(finding), key[:3] if key else None), []), finding, 0)
 
     def _taken(self, numbers: List[int], finding: Finding, least: int) -> Optional[Row]:
         """Takes the entry of the worst class, if that is worse than the finding's by `least` or more."""
@@ -326,7 +357,7 @@ def ignored(
         used |= {(it.entry.path, at) for at in hides}
         if hides and it.state in (NEW, WARNED):
             place = f"{visible(it.entry.path)}:{it.place.line}"
-            it = replace(it, reason=OWN_IGNORE.format(place)) if options.locked else replace(it, state=IGNORED)
+            it = replace(it, reason=OWN_IGNORE.format(place)) if options.locked else replace(it, state=IGNORED, reason="")
         answer.append(it)
     lost = [(path, at) for path, rows in ignores.items() for at in rows if (path, at) not in used and _is_ours(rows[at])]
     return answer, tuple(sorted(lost))
@@ -372,15 +403,42 @@ def at_place(finding: Finding, place: Tuple[str, int, int]) -> bool:
     return finding.place.line <= line <= max(last, finding.place.line) and column in (0, finding.place.column)
 
 
-def with_finding(accepted: Accepted, finding: Finding, reason: str) -> Accepted:
+def with_finding(accepted: Accepted, finding: Finding, reason: str, old: Optional[Row] = None) -> Accepted:
     """Returns the file with an entry for a finding; one that accepts it already gets the new reason and class.
 
-    Raises AcceptError as `row_of` does.
+    `old` is the entry that goes for it. Raises AcceptError as `row_of` does.
     """
     new = row_of(finding, accepted, reason)
     is_known = finding.state == ACCEPTED
-    same = [it for it in accepted.rows if is_known and (it.path, it.key) == (new.path, new.key)]
+    same = [it for it in accepted.rows if is_known and (it.path, it.key) == (new.path, new.key) or it == old]
     return replace(accepted, rows=(*(it for it in accepted.rows if it not in same[:1]), new))
+
+
+def old_entries(accepted: Accepted, findings: Sequence[Finding], options: Options) -> List[Tuple[Finding, Row]]:
+    """Returns the findings of a run that are accepted in another function of their file, each with that entry."""
+    return [(findings[at], row) for at, row in _again(accepted, findings, options).renamed.items()]
+
+
+def _again(accepted: Accepted, findings: Sequence[Finding], options: Options) -> Split:
+    """What `split` says of the findings of a run, which it was given already."""
+    def first(it: Finding) -> Finding:
+        """A finding as it was before."""
+        is_bad = it.verdict is not None and it.verdict.is_finding(options.max_degree)
+        state = (NEW if is_bad else OTHER) if it.state == ACCEPTED else it.state
+        return replace(it, state=state, reason="")
+
+    return split(list(map(first, findings)), accepted, options)
+
+
+def dead(said: Split, accepted: Accepted, files: Iterable[str], options: Options) -> List[Row]:
+    """Returns the entries that accept nothing any more, as `split` says, of files that were judged or are gone.
+
+    Those of classes that are no findings by the options, and of functions with other names, aren't among them.
+    """
+    judged = {_relative(it, accepted.folder) for it in files}
+    renamed = set(said.renamed.values())
+    return [it for it in said.unused if it not in renamed and not 0 <= _rank(it.cost) <= options.max_degree
+            and (it.path in judged or not os.path.lexists(os.path.join(accepted.folder, it.path)))]
 
 
 def pruned(accepted: Accepted, findings: Sequence[Finding], options: Options) -> Accepted:
@@ -388,9 +446,7 @@ def pruned(accepted: Accepted, findings: Sequence[Finding], options: Options) ->
 
     `findings` are those of a run. Entries whose findings moved or got better are brought up to date.
     """
-    open_again = [replace(it, state=NEW if it.verdict is not None and it.verdict.is_finding(options.max_degree) else OTHER)
-                  if it.state == ACCEPTED else it for it in findings]
-    said = split(open_again, accepted, options)
+    said = _again(accepted, findings, options)
     looked: FrozenSet[str] = frozenset(accepted.path_of(it) for it in findings)
 
     def is_stale(row: Row) -> bool:

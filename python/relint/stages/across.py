@@ -123,14 +123,13 @@ def _rows(answer: Any, count: Optional[int] = None) -> List[Any]:
 
 def alone(path: str, local: LocalUses) -> Uses:
     """Returns the uses of a pattern in its own file, as if there were no other."""
-    return _whole(path, local, local)
+    return _whole(path, local)
 
 
-def _whole(path: str, local: LocalUses, found: LocalUses) -> Uses:
-    """The uses of a pattern; `local` are those in its own file, at `path`."""
+def _whole(path: str, found: LocalUses) -> Uses:
+    """The uses of a pattern that is in the file at `path`."""
     uses = sorted(set(found.uses), key=lambda it: (it.path != path, it.path, it.line, it.method))
-    is_public = any(it.kind == "module" and not it.name.startswith("_") for it in local.names)
-    return Uses(tuple(uses), found.is_read, is_public, found.lost or ("" if uses else NOT_FOUND))
+    return Uses(tuple(uses), found.is_read, found.lost or ("" if uses else NOT_FOUND))
 
 
 # ---- in all files
@@ -150,7 +149,7 @@ def across(files: Sequence[str], found: Mapping[int, Tuple[str, LocalUses]], poo
     for it in left.values():
         for index in it:
             rounds.lose(index, "it goes through too many files")
-    return {index: _whole(path, local, rounds.uses[index]) for index, (path, local) in found.items()}
+    return {index: _whole(path, rounds.uses[index]) for index, (path, _) in found.items()}
 
 
 class _Rounds:

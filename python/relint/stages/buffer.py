@@ -189,7 +189,7 @@ class Judge:
             findings = pipeline.judged_as_used(pipeline.found(run), run)
             if self._has_own_comments:
                 run.ignores.clear()
-            findings = growth.grown(pipeline.accepted(findings, run), run)
+            findings = growth.told(pipeline.accepted(findings, run), run)
             late = (pipeline.LATE,) if run.late or asker.late or pool.late else ()
         lost = [it.why for it in run.not_looked if it.fails]
         return Opened(path, text, findings, run, tuple(dict.fromkeys((*lost, *late))))
@@ -234,7 +234,7 @@ def explained(opened: Opened, at: int) -> Finding:
         answers = run.asker.verdicts([(it.site.pattern, it.site.flags, mode) for mode in left])
         known = {mode: verdict for mode, verdict in zip(left, answers) if verdict is not None}
         whole = replace(it, by_mode={it.mode: verdict, **known, **it.by_mode})
-        opened.findings[at] = growth.explained([whole], run)[0]
+        opened.findings[at] = growth.told([whole], run)[0]
     return opened.findings[at]
 
 

@@ -10,9 +10,11 @@ from typing import Dict, Iterator, List, Mapping, NamedTuple, Optional, Sequence
 
 from ..base import rate
 from ..base.model import (
-    MODES, NEW, OTHER, PROVED, UNUSED, WARNED, WIDER, Clock, Entry, Finding, NotLooked, Summary, Text, Uses, Verdict,
+    IGNORED, MODES, NEW, OTHER, PROVED, UNUSED, WARNED, WIDER, Clock, Entry, Finding, NotLooked, Summary, Text, Uses,
+    Verdict,
 )
 from ..base.safe import OpenError, Scratch, is_below, parts_named, read_named, visible
+from ..base.words import counted, listed
 from ..engine.ask import Asker
 from ..engine.engine import MOST_BYTES, Judged, Progress, ReportError, judge, not_looked, read_report
 from ..engine.run import Run
@@ -32,6 +34,7 @@ REPORTED = (".py", ".pyi", ".ipynb")
 MODES_OF_CALLS = {"match": "match", "fullmatch": "fullmatch"}
 TOO_MANY = "the project has too many files to look for its uses"
 LATE = "time ran out"
+MOST_NAMED = 5
 
 
 def run(options: Options, progress: Optional[Progress] = None) -> Tuple[List[Finding], Summary]:
@@ -85,9 +88,7 @@ def staged(run: Run) -> List[Finding]:
     findings = judged_as_used(findings, run)
     findings = tried(findings, run) if run.options.trials else findings
     findings = accepted(findings, run)
-    findings = growth.grown(findings, run)
-    findings = growth.explained(findings, run)
-    return mended(findings, run)
+    return mended(growth.told(findings, run), run)
 
 
 def summary_of(findings: Sequence[Finding], run: Run) -> Summary:
@@ -363,9 +364,38 @@ def accepted(findings: List[Finding], run: Run) -> List[Finding]:
     # (first what was there, so that an entry for it can't accept a copy too)
     if run.earlier is not None:
         findings = known.known(findings, run, lambda it: judged_as_used(found(it), it), across.PROJECT_ENDINGS)
-    findings = accept.split(findings, file, run.options).findings
+    said = accept.split(findings, file, run.options)
+    if _is_whole(run):
+        # (without the files that aren't read, of which nothing is known)
+        lost = {it.path for it in run.not_looked}
+        files = [it for it in (*run.chosen.files, *run.chosen.notebooks) if it not in lost]
+        run.notes += dead_words(accept.dead(said, file, files, run.options))
+    findings = said.findings
     findings, run.unused_ignores = accept.ignored(findings, run.ignores, run.options)
+    if run.earlier is not None:
+        run.notes += _own_ignores(findings)
     return findings
+
+
+def _own_ignores(findings: Sequence[Finding]) -> List[str]:
+    """The line on what a change hides itself: findings with an ignoring comment that didn't stand in the earlier commit."""
+    hidden = [f"{visible(it.entry.path)}:{it.place.line}" for it in findings if it.state == IGNORED]
+    said = f"noqa comments hide {counted(len(hidden), 'finding')} of this change: {listed(hidden, MOST_NAMED)}"
+    return [said] if hidden else []
+
+
+def _is_whole(run: Run) -> bool:
+    """Whether a run looked at the whole project, as far as its configuration says."""
+    options = run.options
+    is_named = options.are_named or bool(options.reports) or options.locked or options.word != "check"
+    return not is_named and os.path.realpath(os.curdir) == run.chosen.root and not run.is_late()
+
+
+def dead_words(rows: Sequence[accept.Row]) -> List[str]:
+    """Returns the line on entries of the accepted file that accept nothing any more, if there are any."""
+    match, them = ("matches", "it") if len(rows) == 1 else ("match", "them")
+    said = f"{counted(len(rows), 'accepted entry', 'accepted entries')} {match} nothing; rlt accept --prune removes {them}"
+    return [said] if rows else []
 
 
 def mended(findings: List[Finding], run: Run) -> List[Finding]:
