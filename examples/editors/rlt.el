@@ -12,8 +12,8 @@
   ;; (rlt counts characters)
   (setq-local compilation-error-screen-columns nil)
   (setq-local compilation-error-regexp-alist
-              '(("^\\(.+\\):\\([0-9]+\\):\\([0-9]+\\): RLT[13][0-9]+ exponential" 1 2 3 2)
-                ("^\\(.+\\):\\([0-9]+\\):\\([0-9]+\\): RLT[13][0-9]+ " 1 2 3 1)
+              '(("^\\(.+\\):\\([0-9]+\\):\\([0-9]+\\): RLT[134][0-9]+ exponential" 1 2 3 2)
+                ("^\\(.+\\):\\([0-9]+\\):\\([0-9]+\\): RLT[134][0-9]+ " 1 2 3 1)
                 ("^\\(.+\\):\\([0-9]+\\):\\([0-9]+\\): RLT2[0-9]+ " 1 2 3 0))))
 
 (defun rlt (path)

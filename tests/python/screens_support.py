@@ -5,12 +5,14 @@ import contextlib
 import io
 import sys
 import types
+from dataclasses import replace
 from typing import Any, Iterator, List, NamedTuple, Optional, Sequence, Tuple
 from unittest import mock
 
 from relint import cli
 from relint.base.model import (
-    NEW, Decision, Entry, Family, Finding, Growth, Literal, Offer, Place, Reading, Site, Span, Step, Summary, Verdict, Why,
+    BEYOND, NEW, Decision, Entry, Family, Finding, Growth, Literal, Offer, Place, Reading, Site, Span, Step, Summary, Verdict,
+    Why,
 )
 
 ROWS, SUBNET = r"^(\w+,?)*$", r"\s+(.+), subnet"
@@ -57,8 +59,17 @@ def cubic(**more: Any) -> Finding:
 
 def refused(cause: str = "lookaround") -> Finding:
     """A pattern that isn't judged."""
-    return Finding(Entry("app.py", "refused", Place(9, 5), "search", cause=cause, fault=Place(9, 7)), site=site("(?=a)b", 300),
-                   lines=((9, 're.search(r"(?=a)b", s)'),))
+    entry = Entry("app.py", "refused", Place(9, 5), "search", cause=cause, fault=Place(9, 7))
+    return Finding(entry, site=site("(?=ab)b", 300), lines=((9, 're.search(r"(?=ab)b", s)'),))
+
+
+def beyond(verdict: Verdict = EXPONENTIAL, **more: Any) -> Finding:
+    """A pattern that only relint-ask judges, with this class."""
+    classes, line = {"search": replace(verdict, beyond=("lookaround",))}, 're.search(r"(?!x)(a|a)*b", s)'
+    entry = Entry("app.py", "refused", Place(7, 11), "search", cause="lookaround", fault=Place(7, 13))
+    given = dict(entry=entry, known=BEYOND, state=NEW, site=site("(?!x)(a|a)*b", 200), by_mode=classes,
+                 growth=Growth(13, 30, 2684354560, True, 2.0), lines=((7, line),))
+    return Finding(**{**given, **more})  # type: ignore[arg-type]
 
 
 def undecided() -> Finding:

@@ -9,11 +9,11 @@ from dataclasses import replace
 from typing import Any, List, Mapping, Optional, Sequence
 
 from engine_support import folder
-from relint.base.model import ACCEPTED, IGNORED, KNOWN, NEW, OTHER, WARNED, Entry, Finding, Place, Verdict
+from relint.base.model import ACCEPTED, IGNORED, KNOWN, NEW, OTHER, PROVED, WARNED, Entry, Finding, Place, Verdict
 from relint.options import Options, read_options
 from relint.stages import accept
 from relint.stages.accept import Accepted, AcceptError, Row
-from screens_support import cubic, exponential, pipeline, refused, rlt, undecided
+from screens_support import beyond, cubic, exponential, pipeline, refused, rlt, undecided
 
 OPTIONS = Options()
 
@@ -50,6 +50,17 @@ class Splitting(unittest.TestCase):
         said = accept.split(findings, accepted, OPTIONS)
         self.assertEqual([it.state for it in said.findings], [ACCEPTED, NEW, ACCEPTED, ACCEPTED, KNOWN, WARNED])
         self.assertEqual((said.findings[0].reason, said.unused, said.moved), ("it is short", [], {}))
+
+    def test_what_only_relint_ask_judges(self) -> None:
+        accepted, harmless = file_of(beyond()), beyond(Verdict("degree", 1), state=OTHER)
+        self.assertEqual([it.cost for it in accepted.rows], ["exponential"])
+        self.assertEqual(states([beyond()], accepted), [ACCEPTED])
+        self.assertFalse(accept.can_be_accepted(harmless, OPTIONS))
+        # (an entry for a pattern that wasn't judged doesn't accept what it turns out to be)
+        not_judged = replace(beyond(), known=PROVED, by_mode={}, state=OTHER)
+        self.assertEqual([it.cost for it in file_of(not_judged).rows], ["refused"])
+        self.assertEqual(states([not_judged, beyond()], file_of(not_judged)), [ACCEPTED, NEW])
+        self.assertEqual(states([beyond()], file_of(not_judged)), [NEW])
 
     def test_what_survives_a_move(self) -> None:
         with folder({"app.py": "", "b.py": ""}):
@@ -121,6 +132,8 @@ class Ignored(unittest.TestCase):
         for ignores, state in cases:
             found, lost = accept.ignored([finding], {"app.py": ignores}, OPTIONS)
             self.assertEqual(found[0].state, state, ignores)
+        for codes, state in ((["RLT400"], IGNORED), (["RLT4"], IGNORED), (["RLT100"], NEW), (["RLT201"], NEW)):
+            self.assertEqual(accept.ignored([beyond()], {"app.py": {7: codes}}, OPTIONS)[0][0].state, state, codes)
         self.assertEqual(accept.ignored([exponential(state=KNOWN)], {"app.py": {2: None}}, OPTIONS)[0][0].state, KNOWN)
 
     def test_those_that_hide_nothing(self) -> None:

@@ -116,7 +116,7 @@ class Asked(unittest.TestCase):
 
     def test_patterns_that_were_seen_to_hang(self) -> None:
         asker = Asker(Options())
-        findings = [finding(r"(?=a)(a+)+$", None, cause="lookaround"), finding(r"(?=a)b", None, cause="lookaround"),
+        findings = [finding(r"(?=aa)(a+)+$", None, cause="lookaround"), finding(r"(?=ab)b", None, cause="lookaround"),
                     finding("a", None, cause="no-such")]
         found = confirm.hangs([Finding(it.entry, state=OTHER, site=it.site) for it in findings], asker, Limits(0.2), 2)
         asker.close()

@@ -43,7 +43,7 @@ class Known(unittest.TestCase):
         ran = subprocess.run([located("relint-ask")], input="".join(json.dumps(it) + "\n" for it in questions).encode(),
                              stdout=subprocess.PIPE, check=True)
         for row, line in zip(rows, ran.stdout.splitlines()):
-            wanted = row["elsewhere"] if row.get("held") else row["relint"]
+            wanted = row.get("beyond") or (row["elsewhere"] if row.get("held") else row["relint"])
             with self.subTest(name=row["name"], source=row["source"]):
                 self.assertEqual(words(json.loads(line)), wanted)
 

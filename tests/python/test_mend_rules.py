@@ -54,6 +54,10 @@ def mark(start: int, end: int) -> Dict[str, Any]:
     return part("boundary", start, end, negated=False, ascii=False)
 
 
+def look(start: int, end: int, behind: bool, negated: bool) -> Dict[str, Any]:
+    return part("look", start, end, behind=behind, negated=negated, letters=[0])
+
+
 def moved(it: Any, by: int) -> Any:
     """A part of an answer with other places."""
     if isinstance(it, list):
@@ -126,6 +130,38 @@ class Trees(unittest.TestCase):
                 self.assertEqual(nodes.written(found.tree, found), wanted)
                 new = nodes.row([*found.tree.items, nodes.guard("#")]) if found.tree.kind == nodes.ROW else found.tree
                 self.assertEqual(nodes.written(new, found).replace("#", ""), wanted.replace("(?:ab)", "ab"))
+
+    def test_a_look_is_a_guard_that_is_written_as_it_stands(self) -> None:
+        line_end = row(1, 2, part("repeat", 1, 2, min=0, max=1, greedy=False, mark=[1, 2], body=one(1)),
+                       part("anchor", 1, 2, what="text-end", multiline=False))
+        cases: Tuple[Tuple[str, List[Any]], ...] = (
+            ("(?=a)b(?<!a|a)", [look(0, 5, False, False), one(5), look(6, 14, True, True)]),
+            ("b(?: (?! a ) a)", [one(0), group(1, 15, row(5, 14, look(5, 12, False, True), one(13)))]),
+            ("(?i:(?<=a)b)", [group(0, 12, row(4, 11, look(4, 10, True, False), one(10)))]),
+            ("a$|b", [either(0, 4, row(0, 2, one(0), part("nothing", 1, 2)), one(3))]),
+            ("a$|b", [either(0, 4, row(0, 2, one(0), line_end), one(3))]))
+        for text, body in cases:
+            with self.subTest(text=text):
+                probe = nodes.Probe(text, int(re.X) if " " in text else 0, False)
+                answer = reply(probe, body)
+                if body[0]["kind"] == "choice":
+                    # (then the set of the probe stands in the first branch)
+                    first, whole = answer["tree"]["items"]
+                    whole["branches"][0]["items"].insert(0, first)
+                    answer["tree"] = whole
+                found = probe.read(answer)
+                self.assertEqual(nodes.written(found.tree, found), text)
+                guards = [it for _, it in nodes.positions(found.tree) if it.kind == nodes.GUARD]
+                self.assertTrue(guards and found.tree.facts.guarded)
+                self.assertTrue(all(it.facts.nullable and not it.facts.mask | it.facts.first for it in guards))
+
+    def test_a_new_look_is_written_like_what_is_there(self) -> None:
+        found = read(r"[ab](\d|a)")
+        one = found.tree.items[0].mask
+        for behind, negated, wanted in ((False, False, "(?=[ab])"), (False, True, "(?![ab])"), (True, False, "(?<=[ab])"),
+                                        (True, True, "(?<![ab])")):
+            new = nodes.row([nodes.look(behind, negated, one), *found.tree.items])
+            self.assertEqual(nodes.written(new, found), wanted + r"[ab](\d|a)")
 
     def test_an_answer_that_is_no_tree_is_refused(self) -> None:
         probe = nodes.Probe("a", 0, False)

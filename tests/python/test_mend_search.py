@@ -96,7 +96,7 @@ class Found(unittest.TestCase):
             self.assertEqual([it.pattern for it in cures if it.steps == ("suggestion",)], [suggestion] * wanted)
 
     def test_nothing_to_mend(self) -> None:
-        for pattern in ("a+", "(a|b)*c", "(?=a)(a+)+$", "(", "(?i)[^]"):
+        for pattern in ("a+", "(a|b)*c", "(?=aa)(a+)+$", "(", "(?i)[^]"):
             self.assertEqual(found(pattern, How()), [])
 
     def test_hostile_patterns_take_no_longer(self) -> None:

@@ -13,7 +13,8 @@ from unittest import mock
 
 from engine_support import folder, missing
 from relint.base.model import Finding, Summary
-from relint.base.words import quoted
+from relint.base.words import quoted, rule_of
+from relint.engine.ask import Asker
 from relint.engine.engine import ReportError
 from relint.files import Earlier
 from relint.options import Options, read_options
@@ -79,7 +80,7 @@ class Whole(unittest.TestCase):
             self.assertEqual(states(ran("a.py")[0]), whole)
 
     def test_statuses(self) -> None:
-        fine, refused = 'import re\nre.search(r"a+b", s)\n', 'import re\nre.search(r"(?=a)b", s)\n'
+        fine, refused = 'import re\nre.search(r"a+b", s)\n', 'import re\nre.search(r"(?=ab)b", s)\n'
         undecided = 'import re\nre.search(r"[ab]*[ac]{300}d{300}", s)\n'
         cases: List[Tuple[Files, List[str], int]] = [
             ({"a.py": fine}, [], 0), ({"a.py": refused}, [], 0), ({"a.py": refused}, ["--strict"], 1),
@@ -93,6 +94,21 @@ class Whole(unittest.TestCase):
             with folder(files):
                 found, summary, got = ran(*words)
                 self.assertEqual(got, status, (files, words, found, summary))
+
+    def test_what_only_relint_ask_judges(self) -> None:
+        text = ('import re\nX = re.compile(r"^(?!#)(\\w+,?)*$")\nre.search(r"(?<!x)a+b", s)\nre.search(r"(?=ab)b", s)\n'
+                're.match(r"^a+b|c+$", s)\nX.match(s)\n')
+        with folder({"a.py": text, "b.py": 'import re\nre.search(r"a+b", s)\n'}):
+            found, _, status = ran("a.py")
+            self.assertEqual([(it.known, rule_of(it), it.mode, it.state) for it in found], [
+                ("beyond", "RLT400", "match", "new"), ("beyond", "RLT402", "search", "other"),
+                ("proved", "RLT201", "search", "other"), ("beyond", "RLT401", "match", "other")])
+            assert found[0].growth and found[0].why and found[0].verdict
+            self.assertEqual((status, found[0].offers[0].kind, found[0].verdict.beyond), (1, "fix", ("lookaround",)))
+            self.assertEqual([it.state for it in ran("--max-degree", "1", "a.py")[0]], ["new", "new", "other", "other"])
+            self.assertEqual(ran("--strict", "a.py")[2], 1)
+            with mock.patch.object(Asker, "started", side_effect=AssertionError("nothing is to be asked")):
+                self.assertEqual(states(ran("b.py")[0]), [])
 
     def test_lower_degrees_that_are_shown(self) -> None:
         with folder({"a.py": 'import re\nre.search(r"a*b", s)\nre.search(r"b", s)\n'}):

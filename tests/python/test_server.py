@@ -61,7 +61,8 @@ class Served(Client):
         self.assertEqual(self.change(SLOW.replace("^(\\w+,?)*$", "a+")), [])
         two = {"start": {"line": 3, "character": 0}, "end": {"line": 3, "character": 0}}
         self.change(SLOW)
-        more = self.change('re.search(r"(a|a)*b", "")\nre.search("(?=a)b")\nX = re.compile("a*a*b")\nX.match("")\n', range=two)
+        more = self.change('re.search(r"(a|a)*b", "")\nre.search("(?=ab)b")\nX = re.compile("a*a*b")\nX.match("")\n',
+                           range=two)
         self.assertEqual(self.codes(more), [("RLT100", 1), ("RLT100", 1), ("RLT201", 3), ("RLT102", 4)])
 
     def test_typing_is_judged_after_a_rest(self) -> None:
@@ -116,7 +117,7 @@ class Served(Client):
         self.assertIn("accepted in the editor", (self.folder / "ours.json").read_text())
 
     def test_what_is_not_judged_is_accepted_too(self) -> None:
-        self.open(SLOW.replace("^(\\w+,?)*$", "(?=a)b(\\w+,?)*"))
+        self.open(SLOW.replace("^(\\w+,?)*$", "(?=ab)b(\\w+,?)*"))
         actions = self.actions()
         self.assertEqual([it["title"] for it in actions], ["rlt: accept with a reason (refused)", "rlt: explain RLT201"])
         self.command(actions[0])

@@ -9,11 +9,13 @@ from dataclasses import replace
 from typing import Any, Callable, Dict, List, Sequence
 
 import report_schemas
-from relint.base.model import ACCEPTED, IGNORED, KNOWN, PROVED, SEEN, Finding, Narrowed, NotLooked, Place, Seen, Summary
+from relint.base.model import (
+    ACCEPTED, IGNORED, KNOWN, OTHER, PROVED, SEEN, Finding, Narrowed, NotLooked, Place, Seen, Summary, Verdict,
+)
 from relint.engine.engine import read_report
 from relint.options import Options
 from relint.show import servers, terminal
-from screens_support import SUMMARY, cubic, exponential, refused, undecided
+from screens_support import SUMMARY, beyond, cubic, exponential, refused, undecided
 
 try:
     jsonschema: Any = importlib.import_module("jsonschema")
@@ -55,6 +57,20 @@ class Every(unittest.TestCase):
             text = "\n".join(layout([], SUMMARY, options))
             self.assertIn("configuration: relint.toml (exclude)", text)
             self.assertIn("the change touches it", text)
+
+    def test_what_only_relint_ask_judges_is_said_once(self) -> None:
+        said = "proved by relint-ask, beyond relint's profile"
+        harmless = beyond(Verdict("degree", 1), state=OTHER, growth=None)
+        # (Code Quality has a description and a body, and SARIF the page about the rule, twice)
+        times = {servers.gitlab: 2, servers.sarif: 3}
+        for layout in EVERY:
+            text = made(layout, [beyond()])
+            self.assertEqual(text.count(said), times.get(layout, 1), layout)
+            self.assertIn("RLT400", text)
+            for words in ("not judged", "RLT201"):
+                self.assertNotIn(words, made(layout, [harmless], strict=True), layout)
+        for layout in (terminal.lines, servers.concise):
+            self.assertIn("RLT401 linear, " + said, made(layout, [harmless], all=True))
 
     def test_nothing_hostile_comes_through(self) -> None:
         entry = replace(exponential().entry, path=NASTY)
@@ -170,6 +186,13 @@ class Json(unittest.TestCase):
         self.assertEqual(added["offers"][0]["literal"], exponential().offers[0].literal)
         self.assertEqual(added["why"][1:3], ["text    0 0 0", "way 1   A A|A"])
         self.assertNotRegex(text, r"[0-9]\.[0-9]+[,}]")
+
+    def test_json_of_what_only_relint_ask_judges(self) -> None:
+        whole = self.document(servers.json_report, [beyond()])
+        row = whole["entries"][0]
+        self.assertEqual((whole["findings"], whole["beyond"], row["kind"], row["cause"]), (1, [], "refused", "lookaround"))
+        self.assertEqual((row["rlt"]["known"], row["rlt"]["rule"], row["rlt"]["modes"]), ("beyond", "RLT400", {
+            "search": "exponential"}))
 
 
 if __name__ == "__main__":

@@ -117,7 +117,7 @@ class Team(unittest.TestCase):
         git("add", "-A")
         git("commit", "-q", "-m", "accepted")
         git("branch", "-f", "main")
-        Path("src/look.py").write_text('import re\nre.search(r"(?=a)b", "")\n')
+        Path("src/look.py").write_text('import re\nre.search(r"(?=ab)b", "")\n')
         self.assertEqual(changed(), (0, []))
         self.assertEqual(changed("--strict")[0], 1)
         self.assertEqual(rlt("check", "--format=json", "--write=sarif=relint.sarif", "--tracked").status, 0)

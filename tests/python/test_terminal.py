@@ -97,7 +97,7 @@ class Screens(unittest.TestCase):
         self.assertEqual([it.split(": ", 1)[1] for it in lines[:6]], [
             r"RLT100 exponential; accepted: old\x1b[2J", "RLT103 cubic; not as used: match in b.py:3",
             "RLT103 cubic; ignored by a noqa comment", "RLT103 cubic; there before this change",
-            "RLT201 not judged (lookaround, at 9:7): a lookahead or lookbehind, as (?=a)",
+            "RLT201 not judged (lookaround, at 9:7): a lookahead or lookbehind of more than one character, as (?=ab)",
             "RLT200 undecided: too many pairs of places (pairs over 600, --max-pairs 1000 may decide it)"])
         self.assertIn("no findings", lines)
         self.assertIn("hidden: 1 accepted by relint-accepted.json, 1 ignored by noqa comments, 1 in origin/main already, "

@@ -13,8 +13,10 @@ from unittest import mock
 
 from engine_support import TOP
 from relint.base import words
-from relint.base.model import ELSEWHERE, SEEN, Bound, Entry, Family, Finding, Growth, Offer, Place, Seen, Text, Verdict
-from screens_support import cubic, exponential, refused, undecided
+from relint.base.model import (
+    BEYOND, ELSEWHERE, SEEN, Bound, Entry, Family, Finding, Growth, Offer, Place, Seen, Text, Verdict,
+)
+from screens_support import beyond, cubic, exponential, refused, undecided
 
 # The program's own tables of the names that a report may hold.
 NAMES = TOP / "crates" / "rl_sarif" / "src" / "names.rt"
@@ -46,12 +48,13 @@ class Words(unittest.TestCase):
     def test_rules(self) -> None:
         def rule(finding: Finding, known: str = "proved") -> str:
             return words.rule_of(replace(finding, known=known))
-        self.assertEqual([rule(exponential()), rule(exponential(), ELSEWHERE), rule(exponential(), SEEN)],
-                         ["RLT100", "RLT300", "RLT350"])
-        self.assertEqual([rule(cubic()), rule(cubic(), ELSEWHERE), rule(cubic(), SEEN)], ["RLT103", "RLT303", "RLT353"])
+        every = ("proved", ELSEWHERE, SEEN, BEYOND)
+        self.assertEqual([rule(exponential(), it) for it in every], ["RLT100", "RLT300", "RLT350", "RLT400"])
+        self.assertEqual([rule(cubic(), it) for it in every], ["RLT103", "RLT303", "RLT353", "RLT403"])
         high = Finding(Entry("a.py", "degree", Place(1, 1), "match", degree(1000)))
-        self.assertEqual([rule(high), rule(high, ELSEWHERE)], ["RLT199", "RLT349"])
+        self.assertEqual([rule(high), rule(high, ELSEWHERE), rule(high, BEYOND)], ["RLT199", "RLT349", "RLT499"])
         self.assertEqual([rule(undecided()), rule(refused()), rule(undecided(), SEEN)], ["RLT200", "RLT201", "RLT350"])
+        self.assertEqual([rule(undecided(), BEYOND), rule(beyond(degree(0)), BEYOND)], ["RLT200", "RLT401"])
         self.assertEqual(rule(Finding(Entry("a.py", "refused", cause="not-utf8"))), "RLT202")
         self.assertEqual([rule(Finding(Entry("a", it))) for it in ("unreadable", "not-plain")], ["RLT203", "RLT203"])
         least = Verdict("undecided", limit="pairs", over=9, at_least=Bound("exponential", None, "x"))
@@ -69,6 +72,15 @@ class Words(unittest.TestCase):
         seen = exponential(known=SEEN, seen=Seen("CPython 3.11", 40, 1.0, 13))
         self.assertIn("seen to hang: a text of 40 characters keeps this search busy for over 1 second on CPython",
                       words.danger(seen))
+        by_ask = "proved by relint-ask, beyond relint's profile"
+        self.assertEqual(words.danger(beyond()),
+                         f"exponential, {by_ask}: a text of 30 characters keeps this search busy for about a minute")
+        self.assertEqual(words.outcome(beyond(degree(1))), "linear, " + by_ask)
+        open_one = replace(undecided().entry.verdict or degree(1), over=1000)
+        self.assertNotIn(by_ask, words.outcome(beyond(open_one)))
+        most = replace(open_one, at_most=Bound("degree", 2, "one-degree-more"))
+        self.assertEqual(words.outcome(beyond(most)).split("; ")[1], "at most quadratic, " + by_ask)
+        self.assertNotIn(by_ask, words.danger(beyond(known=SEEN, seen=Seen("CPython 3.11", 40, 1.0, 13))))
 
     def test_seconds(self) -> None:
         cases = {0.1: "less than a second", 1.2: "about a second", 3: "about 3 seconds", 27: "about 30 seconds",
@@ -80,7 +92,8 @@ class Words(unittest.TestCase):
 
     def test_outcomes(self) -> None:
         self.assertEqual(words.outcome(cubic()), "cubic")
-        self.assertEqual(words.outcome(refused()), "not judged (lookaround, at 9:7): a lookahead or lookbehind, as (?=a)")
+        self.assertEqual(words.outcome(refused()),
+                         "not judged (lookaround, at 9:7): a lookahead or lookbehind of more than one character, as (?=ab)")
         self.assertEqual(words.outcome(undecided()),
                          "undecided: too many pairs of places (pairs over 600, --max-pairs 1000 may decide it)")
         self.assertEqual(words.outcome(Finding(Entry("a", "refused", cause="x\x1b[2J"))),
@@ -156,6 +169,7 @@ class Explained(unittest.TestCase):
     def test_rules_causes_and_pages(self) -> None:
         self.assertRegex(words.explained("rlt100") or "", "^# RLT100: exponential pattern\n\n")
         self.assertRegex(words.explained("RLT142") or "", "^# RLT142: polynomial pattern\n")
+        self.assertRegex(words.explained("RLT400") or "", "^# RLT400: beyond relint's profile\n")
         self.assertRegex(words.explained("lookaround") or "", "^lookaround: a lookahead")
         self.assertRegex(words.explained("pairs") or "", "RLT200")
         self.assertRegex(words.explained("Rules") or "", "^# Classes and rules")

@@ -16,7 +16,7 @@ from runner.results import Failed, Result, Skipped
 CRATE = TREE / "crates" / "relint_ask"
 _FLAGS = {"a": re.A, "i": re.I, "m": re.M, "s": re.S, "x": re.X, "u": re.U}
 _LONGEST = 4_194_304
-_PATTERNS = ["a", "(a|a)*b", r"^(\w+,?)*$", r"\s+(.+), subnet", "a*a*b", "[0-9a-f]{4}", "(", "(?=a)", r"(a)\1"]
+_PATTERNS = ["a", "(a|a)*b", r"^(\w+,?)*$", r"\s+(.+), subnet", "a*a*b", "[0-9a-f]{4}", "(", "(?=ab)", r"(a)\1"]
 
 
 def tested() -> List[str]:

@@ -39,11 +39,12 @@ use Rattle.rl_prio.specs.Letters.{all_sets}
 use Rattle.rl_pairs.specs.declared.pair.Pair.{Pair}
 use Rattle.rl_pairs.specs.PairGraph.{IsPairGraph}
 use Rattle.rl_pairs.specs.Families.{Chained, chain_heads, chain_pumps, Spells}
-use Rattle.rl_pairs.specs.RightVerdict.{Question, IsExceeded}
+use Rattle.rl_pairs.specs.RightVerdict.{Question, IsExceeded, measure_of}
+use Rattle.rl_prio.specs.Measure.{measure}
 use Rattle.rl_pairs.proofs.StillLaws.{still_of}
 use Rattle.rl_pairs.proofs.CostLaws.{twin-inside, chain-inside}
 use Rattle.rl_pairs.proofs.FamilyLaws.{spells-reads}
-use Rattle.rl_pairs.proofs.VerdictLaws.{graph-within}
+use Rattle.rl_pairs.proofs.VerdictLaws.{graph-within, machine-within}
 use Rattle.rl_growth.specs.Questions.{StandsForSome}
 use Rattle.rl_growth.specs.Routes.{bare, state_after, IsLongest}
 use Rattle.rl_growth.specs.FamilyWords.{IsTwinWords, IsChainWords}
@@ -137,8 +138,8 @@ module _ (q : Question) (a : Automaton) (next : ℕ → ℕ → List ℕ) (at : 
   module _ (ranks : List ℕ) (ranked : AreRanks next n ranks) where
     ends : (s t : ℕ) (w : List ℕ) → s < n → 1 ≤ paths next s t w → t < n
     ends s t w lt h =
-        let k = bound_k (size q.tree) in
-        let in-graph = graph-within a q.tree q.ending (all_sets q.tree) next at n field.machine.stands field.graph in
+        let k = bound_k (measure_of q) in
+        let in-graph = machine-within q a next at n field.machine field.graph in
         (falls-along next n k (λ s. get_or ranks s 0) in-graph (ranks-fall next n k (λ s. get_or ranks s 0) in-graph ranked.right) s t w lt h).0
 
     links-in : (s : ℕ) (links : List Link) (x : List ℕ) (z : ℕ) → s < n → Chained next s links x z → Each (λ m. (m.from < n) × (m.to < n)) links × (z < n)
@@ -198,7 +199,7 @@ module _ (q : Question) (a : Automaton) (next : ℕ → ℕ → List ℕ) (at : 
 -- Ranks allow no split between states of one rank.
 pub no-equal-split : (a : Automaton) (next : ℕ → ℕ → List ℕ) (at : ℕ → Pair) (n : ℕ) (ranks : List ℕ) → StandsForSome a → IsPairGraph a next at n → AreRanks next n ranks → HasNoEqualSplit next n (slice_index ranks)
 no-equal-split a next at n ranks stands g ranked =
-    ranks-split next n (bound_k (size stands.0)) (slice_index ranks) (graph-within a stands.0 stands.1 (all_sets stands.0) next at n stands.3 g) ranked.right
+    ranks-split next n (bound_k (measure a.table.codes stands.0)) (slice_index ranks) (graph-within a stands.0 stands.1 (all_sets stands.0) next at n stands.3 g) ranked.right
 
 -- What was made answers the question
 

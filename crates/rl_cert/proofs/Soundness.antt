@@ -11,7 +11,6 @@ use Rattle.rl_syntax.specs.declared.verdict.Family.{Family}
 use Rattle.rl_syntax.specs.declared.verdict.Limit.{Limit}
 use Rattle.rl_syntax.specs.declared.verdict.Verdict.{Verdict}
 use Rattle.rl_syntax.specs.declared.verdict.Verdict.TheVariants.{Degree, Expo, Undecided}
-use Rattle.rl_syntax.specs.Tree.{size}
 use Rattle.rl_syntax.specs.Family.{IsFamily}
 use Rattle.rl_prio.specs.Automaton.{Automaton, letters_count}
 use Rattle.rl_prio.specs.Letters.{all_sets}
@@ -23,10 +22,10 @@ use Rattle.rl_degree.proofs.WithoutSplit.{without_cycle}
 use Rattle.rl_pairs.specs.declared.pair.Pair.{Pair}
 use Rattle.rl_pairs.specs.Families.{Chained, chain_heads, chain_pumps, letters_in, to_end, Reads}
 use Rattle.rl_pairs.specs.LivePairs.{refused}
-use Rattle.rl_pairs.specs.RightVerdict.{Question, IsExceeded, HasDegree, IsExpo, IsBounded as IsBoundedCost, RightVerdict}
+use Rattle.rl_pairs.specs.RightVerdict.{Question, IsExceeded, HasDegree, IsExpo, IsBounded as IsBoundedCost, RightVerdict, measure_of}
 use Rattle.rl_pairs.proofs.StillLaws.{All-has}
 use Rattle.rl_pairs.proofs.CostLaws.{twin_reads, chain_reads}
-use Rattle.rl_pairs.proofs.VerdictLaws.{flat_verdict, bounded_degree, bounded_flat, graph-bounded, graph-within, few-states}
+use Rattle.rl_pairs.proofs.VerdictLaws.{flat_verdict, bounded_degree, bounded_flat, machine-bounded, machine-within, machine-few}
 use Rattle.rl_cert.specs.declared.certificate.Anchor.{Anchor}
 use Rattle.rl_cert.specs.declared.certificate.Certificate.{Certificate}
 use Rattle.rl_numbers.specs.Numbered.{AreTriples, is_triple, triple_number}
@@ -108,11 +107,11 @@ module _ (q : Question) (a : Automaton) (next : ℕ → ℕ → List ℕ) (at : 
     same_pumps = h;
   }
 
-  within-bounds : IsWithin next (bound_n (size q.tree)) (bound_k (size q.tree))
-  within-bounds = graph-bounded a q.tree q.ending (all_sets q.tree) next at n field.whole field.machine.stands field.graph field.numbered
+  within-bounds : IsWithin next (bound_n (measure_of q)) (bound_k (measure_of q))
+  within-bounds = machine-bounded q a next at n field.machine field.graph field.whole field.numbered
 
-  some-bound : 0 < bound_n (size q.tree)
-  some-bound = omega (arith, field.graph.some, few-states a q.tree q.ending (all_sets q.tree) next at n field.whole field.machine.stands field.graph field.numbered)
+  some-bound : 0 < bound_n (measure_of q)
+  some-bound = omega (arith, field.graph.some, machine-few q a next at n field.machine field.graph field.whole field.numbered)
 
   bounded : IsBounded next n (suc (letters_count a))
   bounded = record { targets = targets; letters = λ s l le. field.graph.empty s l (inr (omega arith)) }
@@ -128,7 +127,7 @@ module _ (q : Question) (a : Automaton) (next : ℕ → ℕ → List ℕ) (at : 
   upper : (d : ℕ) (c : Certificate) → AreLevels next n (suc d) c.ranks → AreDoubles next n c.doubles → AreTriples next n (λ s. get_or c.ranks s 0) c.triples → IsBoundedCost q (suc d)
   upper d c levels doubles triples =
       bounded_degree q a next at n field.machine field.whole field.graph field.numbered d
-      (λ p u. by_ranks next (bound_n (size q.tree)) (bound_k (size q.tree)) rank within-bounds none falls no_split d 0 p u some-bound (omega (arith, levels.low 0 field.graph.some)))
+      (λ p u. by_ranks next (bound_n (measure_of q)) (bound_k (measure_of q)) rank within-bounds none falls no_split d 0 p u some-bound (omega (arith, levels.low 0 field.graph.some)))
     where
       rank : ℕ → ℕ
       rank s = get_or c.ranks s 0
@@ -136,18 +135,18 @@ module _ (q : Question) (a : Automaton) (next : ℕ → ℕ → List ℕ) (at : 
       none : HasNoTwin next
       none = doubles_exclude next n (suc (letters_count a)) (is_double c.doubles) (double_number c.doubles) bounded doubles.numbers
 
-      falls : NeverRises next (bound_n (size q.tree)) rank
+      falls : NeverRises next (bound_n (measure_of q)) rank
       falls s l m lt h = by (cases_lt s n)
         where
           by : (s < n) ⊎ (n ≤ s) → rank m ≤ rank s
           by (inl small) = levels.never_rises s l m small h
           by (inr out) = absurd (no-member (next s l) m (field.graph.empty s l (inl out)) h)
 
-      no_split : HasNoEqualSplit next (bound_n (size q.tree)) rank
+      no_split : HasNoEqualSplit next (bound_n (measure_of q)) rank
       no_split r t y lt e split = by (cases_lt r n) y split
         where
           by : (r < n) ⊎ (n ≤ r) → (y : List ℕ) → IsSplit next r t y → ⊥
-          by (inl small) y split = triples_exclude next n (bound_k (size q.tree)) rank (is_triple c.triples) (triple_number c.triples) (graph-within a q.tree q.ending (all_sets q.tree) next at n field.machine.stands field.graph) levels.never_rises triples.numbers r t y small e split
+          by (inl small) y split = triples_exclude next n (bound_k (measure_of q)) rank (is_triple c.triples) (triple_number c.triples) (machine-within q a next at n field.machine field.graph) levels.never_rises triples.numbers r t y small e split
           by (inr out) [] split = split.apart (nil-same next r t split.over)
           by (inr out) (l ∷ y) split =
               let m = total-there (λ m. paths next m t y) (next r l) split.over in
@@ -157,7 +156,7 @@ module _ (q : Question) (a : Automaton) (next : ℕ → ℕ → List ℕ) (at : 
   flat f family none = (
     flat_verdict q within f family,
     bounded_flat q a next at n field.machine field.whole field.graph field.numbered none
-        (λ p u. without_cycle next (bound_n (size q.tree)) (bound_k (size q.tree)) within-bounds none 0 p u some-bound),
+        (λ p u. without_cycle next (bound_n (measure_of q)) (bound_k (measure_of q)) within-bounds none 0 p u some-bound),
   )
 
   lower : (d : ℕ) (c : Certificate) (f : Family) → IsFamily q.universe (suc d) f → IsWay a next at n 0 c.anchors (words_of a f.heads) (words_of a f.pumps) → HasDegree q (suc d) f

@@ -27,9 +27,10 @@ use Rattle.rl_pairs.specs.declared.pair.Pair.{Pair}
 use Rattle.rl_pairs.specs.PairGraph.{IsPairGraph, IsNumbered}
 use Rattle.rl_pairs.specs.Counted.{CountedSet, MoreThan}
 use Rattle.rl_pairs.specs.Families.{Spells, chain_heads}
-use Rattle.rl_pairs.specs.RightVerdict.{Question, IsMachine, IsExceeded, IsSmall, HasDegree, IsBounded, RightVerdict}
+use Rattle.rl_pairs.specs.RightVerdict.{Question, IsMachine, IsExceeded, IsSmall, HasDegree, IsBounded, RightVerdict, measure_of}
 use Rattle.rl_pairs.proofs.SameLaws.{sets-passed}
-use Rattle.rl_pairs.proofs.VerdictLaws.{twin_verdict, chain_verdict, flat_verdict, pairs-within, graph-bounded, graph-within, few-states, bounded_degree, bounded_flat}
+use Rattle.rl_pairs.proofs.VerdictLaws.{twin_verdict, chain_verdict, flat_verdict, pairs-within, graph-within, machine-bounded, machine-few, bounded_degree, bounded_flat}
+use Rattle.rl_prio.specs.Measure.{measure}
 use Rattle.rl_growth.specs.Texts.{HasTexts}
 use Rattle.rl_growth.specs.Questions.{StandsForSome, DecidesFor}
 use Rattle.rl_growth.specs.FamilyWords.{IsTwinWords, IsChainWords}
@@ -55,11 +56,11 @@ top_rank next n d r links some longest chain count rank =
     omega (arith, most, least, rank.long)
 
 module _ (q : Question) (a : Automaton) (next : ℕ → ℕ → List ℕ) (at : ℕ → Pair) (n : ℕ) (machine : IsMachine q a) (whole : IsAutomaton a) (g : IsPairGraph a next at n) (numbered : IsNumbered a next at n) where
-  within-bounds : IsWithin next (bound_n (size q.tree)) (bound_k (size q.tree))
-  within-bounds = graph-bounded a q.tree q.ending (all_sets q.tree) next at n whole machine.stands g numbered
+  within-bounds : IsWithin next (bound_n (measure_of q)) (bound_k (measure_of q))
+  within-bounds = machine-bounded q a next at n machine g whole numbered
 
-  some-bound : 0 < bound_n (size q.tree)
-  some-bound = omega (arith, g.some, few-states a q.tree q.ending (all_sets q.tree) next at n whole machine.stands g numbered)
+  some-bound : 0 < bound_n (measure_of q)
+  some-bound = omega (arith, g.some, machine-few q a next at n machine g whole numbered)
 
   ranks-all : (ranks : List ℕ) → length ranks ≡ n → ((s : ℕ) → s < n → IsRank next s (get_or ranks s 0)) → (s : ℕ) → IsRank next s (get_or ranks s 0)
   ranks-all ranks long each s = by (cases_lt s n)
@@ -72,13 +73,13 @@ module _ (q : Question) (a : Automaton) (next : ℕ → ℕ → List ℕ) (at : 
   pub rank_bound : (ranks : List ℕ) (d : ℕ) → HasNoTwin next → length ranks ≡ n → ((s : ℕ) → s < n → IsRank next s (get_or ranks s 0)) → get_or ranks 0 0 ≡ d → IsBounded q (suc d)
   rank_bound ranks d none long each e =
       bounded_degree q a next at n machine whole g numbered d
-      (λ p u. subst (λ r. paths next 0 p u ≤ (bound_h (bound_n (size q.tree)) (bound_k (size q.tree)) * (1 + bound_n (size q.tree) * bound_k (size q.tree))) ^ suc r * suc (length u) ^ r) e
-      (by_degree next (bound_n (size q.tree)) (bound_k (size q.tree)) (λ s. get_or ranks s 0) within-bounds none (λ s lt. ranks-all ranks long each s) 0 p u some-bound))
+      (λ p u. subst (λ r. paths next 0 p u ≤ (bound_h (bound_n (measure_of q)) (bound_k (measure_of q)) * (1 + bound_n (measure_of q) * bound_k (measure_of q))) ^ suc r * suc (length u) ^ r) e
+      (by_degree next (bound_n (measure_of q)) (bound_k (measure_of q)) (λ s. get_or ranks s 0) within-bounds none (λ s lt. ranks-all ranks long each s) 0 p u some-bound))
 
   pub flat_bound : ((p l : ℕ) (u : List ℕ) → paths next p p (l ∷ u) ≡ 0) → IsBounded q 0
   flat_bound none =
       bounded_flat q a next at n machine whole g numbered none
-      (λ p u. without_cycle next (bound_n (size q.tree)) (bound_k (size q.tree)) within-bounds none 0 p u some-bound)
+      (λ p u. without_cycle next (bound_n (measure_of q)) (bound_k (measure_of q)) within-bounds none 0 p u some-bound)
 
   module _ (within : (limit : Limit) → IsExceeded q limit → ⊥) (f : Family) where
     pub twin_right : (p : ℕ) (heads pumps : List (List ℕ)) → IsTwinWords a next at p heads pumps → Spells a f heads pumps → RightVerdict q (Expo f)
@@ -117,7 +118,7 @@ module _ (q : Question) (a : Automaton) (next : ℕ → ℕ → List ℕ) (at : 
 -- A chain of splits is shorter than the graph.
 pub chain_fits : (a : Automaton) (next : ℕ → ℕ → List ℕ) (at : ℕ → Pair) (n : ℕ) (splits : List Split) (alone : ℕ) (heads pumps : List (List ℕ)) → StandsForSome a → IsPairGraph a next at n → HasNoTwin next → IsChainWords a next at splits alone heads pumps → length splits < n
 chain_fits a next at n splits alone heads pumps stands g none w =
-    let short = chain_short next n (bound_k (size stands.0)) (graph-within a stands.0 stands.1 (all_sets stands.0) next at n stands.3 g) none 0 w.links g.some (chained-from next 0 w.links w.lead w.state w.chained) in
+    let short = chain_short next n (bound_k (measure a.table.codes stands.0)) (graph-within a stands.0 stands.1 (all_sets stands.0) next at n stands.3 g) none 0 w.links g.some (chained-from next 0 w.links w.lead w.state w.chained) in
     omega (arith, short, w.count)
 
 pub decided : {E : Type 0} (q : Question) (a : Automaton) (next : ℕ → ℕ → List ℕ) (at : ℕ → Pair) (n : ℕ) (r : Result Verdict E) → StandsFor a q.tree q.ending → a.table.codes ≡ code_count q.universe

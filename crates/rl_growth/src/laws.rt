@@ -10,7 +10,6 @@
 
 ghost use Rattle.std.specs.Prelude.{◌≡◌, ℕ, suc, ◌+◌, ◌*◌, ◌^◌, ◌<◌, ◌≤◌, List, length};
 ghost use Rattle.rl_ranges.specs.Text.{IsText};
-ghost use Rattle.rl_syntax.specs.Tree.{size};
 ghost use Rattle.rl_syntax.specs.Cost.{cost};
 ghost use Rattle.rl_prio.specs.Automaton.{Automaton, IsAutomaton};
 ghost use Rattle.rl_graph.specs.Twins.{HasNoTwin, IsRank};
@@ -19,10 +18,10 @@ ghost use Rattle.rl_degree.specs.Leavers.{NeverRises, HasNoEqualSplit};
 ghost use Rattle.rl_degree.specs.Chains.{HasNoCycle};
 ghost use Rattle.rl_pairs.specs.declared.pair.Pair.{Pair};
 ghost use Rattle.rl_pairs.specs.PairGraph.{IsPairGraph, IsNumbered};
-ghost use Rattle.rl_pairs.specs.RightVerdict.{Question, IsMachine};
+ghost use Rattle.rl_pairs.specs.RightVerdict.{Question, IsMachine, measure_of};
 
-/// The complete upper bound, stated without reference to any search. Let `s` be the size of the tree of a question, and let
-/// no live pair have a twin. `numbers`: let the live pairs have numbers that never increase along a move, such that no split
+/// The complete upper bound, stated without reference to any search. Let `s` be the measure of the tree of a question, which
+/// is its size if it has no lookaround, and let no live pair have a twin. `numbers`: let the live pairs have numbers that never increase along a move, such that no split
 /// leads between pairs with the same number, and let the number of the first pair (and so every number) be at most `d`; then
 /// each text of `n` codes costs at most `C(s, d + 1) (n + 1)^(d + 1)`. `ranks`: the ranks of the pairs are such numbers.
 /// `flat`: if no live pair is on a cycle, each text costs at most `C(s, 0)`. Here `C` is `bound_c`.
@@ -30,12 +29,12 @@ pub fn live_pairs_bound_costs()
     ensures numbers { (q : Question) (a : Automaton) (next : ℕ → ℕ → List ℕ) (at : ℕ → Pair) (n : ℕ)
         → IsMachine q a → IsAutomaton a → IsPairGraph a next at n → IsNumbered a next at n → HasNoTwin next
         → (number : ℕ → ℕ) (d : ℕ) → NeverRises next n number → HasNoEqualSplit next n number → number 0 ≤ d
-        → (w : List ℕ) → IsText q.universe w → cost q.tree q.ending w ≤ bound_c (size q.tree) (suc d) * (length w + 1) ^ suc d }
+        → (w : List ℕ) → IsText q.universe w → cost q.tree q.ending w ≤ bound_c (measure_of q) (suc d) * (length w + 1) ^ suc d }
     ensures ranks { (q : Question) (a : Automaton) (next : ℕ → ℕ → List ℕ) (at : ℕ → Pair) (n : ℕ)
         → IsMachine q a → IsAutomaton a → IsPairGraph a next at n → IsNumbered a next at n → HasNoTwin next
         → (rank : ℕ → ℕ) → ((i : ℕ) → i < n → IsRank next i (rank i))
-        → (w : List ℕ) → IsText q.universe w → cost q.tree q.ending w ≤ bound_c (size q.tree) (suc (rank 0)) * (length w + 1) ^ suc (rank 0) }
+        → (w : List ℕ) → IsText q.universe w → cost q.tree q.ending w ≤ bound_c (measure_of q) (suc (rank 0)) * (length w + 1) ^ suc (rank 0) }
     ensures flat { (q : Question) (a : Automaton) (next : ℕ → ℕ → List ℕ) (at : ℕ → Pair) (n : ℕ)
         → IsMachine q a → IsAutomaton a → IsPairGraph a next at n → IsNumbered a next at n → HasNoCycle next
-        → (w : List ℕ) → IsText q.universe w → cost q.tree q.ending w ≤ bound_c (size q.tree) 0 }
+        → (w : List ℕ) → IsText q.universe w → cost q.tree q.ending w ≤ bound_c (measure_of q) 0 }
 {}

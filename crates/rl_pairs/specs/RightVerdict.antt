@@ -21,6 +21,7 @@ use Rattle.rl_syntax.specs.Family.{family_text, IsFamily, IsExpoFamily}
 use Rattle.rl_prio.specs.Automaton.{Automaton}
 use Rattle.rl_prio.specs.Items.{longest}
 use Rattle.rl_prio.specs.Letters.{letters}
+use Rattle.rl_prio.specs.Measure.{measure}
 use Rattle.rl_prio.specs.StandsFor.{StandsFor}
 use Rattle.rl_graph.specs.Bounds.{bound_c}
 use Rattle.rl_pairs.specs.LivePairs.{LivePair}
@@ -73,10 +74,15 @@ pub record HasDegree (q : Question) (d : ℕ) (f : Family) : Type 0 where
   pub family : IsFamily q.universe d f
   pub lower : (k : ℕ) → k ^ d ≤ cost q.tree q.ending (family_text f k)
 
--- The cost of every text is at most a constant, which depends only on the size of the tree and on `d`, times the `d`-th power
+-- The measure of the question's tree: its size, or, if it has a lookaround, its size times one more than the number of kinds of
+-- codes.
+abbrev pub measure_of : Question → ℕ
+measure_of q = measure (code_count q.universe) q.tree
+
+-- The cost of every text is at most a constant, which depends only on the measure of the tree and on `d`, times the `d`-th power
 -- of its length plus one.
 abbrev pub IsBounded : Question → ℕ → Type 0
-IsBounded q d = (w : List ℕ) → IsText q.universe w → cost q.tree q.ending w ≤ bound_c (size q.tree) d * (length w + 1) ^ d
+IsBounded q d = (w : List ℕ) → IsText q.universe w → cost q.tree q.ending w ≤ bound_c (measure_of q) d * (length w + 1) ^ d
 
 -- The lower bound of exponential growth. No limit is exceeded. The family has one pump, which isn't empty, between two heads,
 -- all of them texts of the universe (`IsExpoFamily`). For each `k`, the family's text with the pump repeated `k` times costs

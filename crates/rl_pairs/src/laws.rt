@@ -17,7 +17,8 @@ ghost use Rattle.rl_syntax.specs.declared.verdict.Family.{Family};
 ghost use Rattle.rl_syntax.specs.declared.verdict.Limit.{Limit};
 ghost use Rattle.rl_syntax.specs.declared.verdict.Limit.TheVariants as Limit;
 ghost use Rattle.rl_syntax.specs.declared.verdict.Verdict.TheVariants.{Degree, Expo, Undecided};
-ghost use Rattle.rl_syntax.specs.Tree.{Tree, size};
+ghost use Rattle.rl_syntax.specs.Tree.{Tree};
+ghost use Rattle.rl_prio.specs.Measure.{measure};
 ghost use Rattle.rl_syntax.specs.Cost.{cost};
 ghost use Rattle.rl_syntax.specs.Family.{pumped, family_text, IsFamily};
 ghost use Rattle.rl_prio.specs.Automaton.{Automaton, IsAutomaton, letters_count};
@@ -32,7 +33,7 @@ ghost use Rattle.rl_pairs.specs.LivePairs.{LivePair, refused};
 ghost use Rattle.rl_pairs.specs.PairGraph.{IsPairGraph, IsNumbered};
 ghost use Rattle.rl_pairs.specs.Counted.{CountedSet, MoreThan};
 ghost use Rattle.rl_pairs.specs.Families.{Chained, chain_heads, chain_pumps, to_end, Reads, Spells};
-ghost use Rattle.rl_pairs.specs.RightVerdict.{Question, IsMachine, IsExceeded, HasDegree, IsExpo, IsBounded, RightVerdict};
+ghost use Rattle.rl_pairs.specs.RightVerdict.{Question, IsMachine, IsExceeded, HasDegree, IsExpo, IsBounded, RightVerdict, measure_of};
 ghost use Rattle.rl_syntax.specs.declared.limits.TheConstants.{MOST_COUNTED_SETS};
 
 /// The cost is one plus the number of non-empty paths of live pairs along prefixes of the letters and the end letter, such
@@ -132,19 +133,19 @@ pub fn states_are_live_pairs()
         → n ≤ m → MoreThan m (LivePair a) → ⊥ }
 {}
 
-/// A tree has few live pairs for its size. An automaton that stands for the tree has at most `N` live pairs, and a numbered
-/// graph of them has at most `N` states, with at most `K` moves of a state on a letter. Here `N` is `bound_n` and `K` is
-/// `bound_k` of the number of the tree's nodes.
+/// A tree has few live pairs for its measure, which is its size if it has no lookaround. An automaton that stands for the tree
+/// has at most `N` live pairs, and a numbered graph of them has at most `N` states, with at most `K` moves of a state on a
+/// letter. Here `N` is `bound_n` and `K` is `bound_k` of the tree's measure.
 pub fn live_pairs_are_few()
     ensures pairs { (a : Automaton) (t : Tree) (ending : Ending) (sets : List (ℕ → Bool)) → IsAutomaton a → StandsOver a t ending sets
-        → MoreThan (bound_n (size t)) (LivePair a) → ⊥ }
+        → MoreThan (bound_n (measure a.table.codes t)) (LivePair a) → ⊥ }
     ensures states { (a : Automaton) (t : Tree) (ending : Ending) (sets : List (ℕ → Bool)) (next : ℕ → ℕ → List ℕ) (at : ℕ → Pair) (n : ℕ)
-        → IsAutomaton a → StandsOver a t ending sets → IsPairGraph a next at n → IsNumbered a next at n → n ≤ bound_n (size t) }
+        → IsAutomaton a → StandsOver a t ending sets → IsPairGraph a next at n → IsNumbered a next at n → n ≤ bound_n (measure a.table.codes t) }
     ensures within { (a : Automaton) (t : Tree) (ending : Ending) (sets : List (ℕ → Bool)) (next : ℕ → ℕ → List ℕ) (at : ℕ → Pair) (n : ℕ)
-        → StandsOver a t ending sets → IsPairGraph a next at n → IsWithin next n (bound_k (size t)) }
+        → StandsOver a t ending sets → IsPairGraph a next at n → IsWithin next n (bound_k (measure a.table.codes t)) }
     ensures bounded { (a : Automaton) (t : Tree) (ending : Ending) (sets : List (ℕ → Bool)) (next : ℕ → ℕ → List ℕ) (at : ℕ → Pair) (n : ℕ)
         → IsAutomaton a → StandsOver a t ending sets → IsPairGraph a next at n → IsNumbered a next at n
-        → IsWithin next (bound_n (size t)) (bound_k (size t)) }
+        → IsWithin next (bound_n (measure a.table.codes t)) (bound_k (measure a.table.codes t)) }
 {}
 
 /// All automata that stand for the same tree and ending over the codes of one universe have the same live pairs and counted
@@ -185,12 +186,12 @@ pub fn paths_bound_costs()
     ensures degree { (q : Question) (a : Automaton) (next : ℕ → ℕ → List ℕ) (at : ℕ → Pair) (n : ℕ)
         → IsMachine q a → IsAutomaton a → IsPairGraph a next at n → IsNumbered a next at n
         → (d : ℕ) → ((p : ℕ) (u : List ℕ) → paths next 0 p u
-        ≤ (bound_h (bound_n (size q.tree)) (bound_k (size q.tree)) * (1 + bound_n (size q.tree) * bound_k (size q.tree))) ^ suc d * suc (length u) ^ d)
+        ≤ (bound_h (bound_n (measure_of q)) (bound_k (measure_of q)) * (1 + bound_n (measure_of q) * bound_k (measure_of q))) ^ suc d * suc (length u) ^ d)
         → IsBounded q (suc d) }
     ensures flat { (q : Question) (a : Automaton) (next : ℕ → ℕ → List ℕ) (at : ℕ → Pair) (n : ℕ)
         → IsMachine q a → IsAutomaton a → IsPairGraph a next at n → IsNumbered a next at n
         → ((p letter : ℕ) (u : List ℕ) → paths next p p (letter ∷ u) ≡ 0)
-        → ((p : ℕ) (u : List ℕ) → paths next 0 p u ≤ bound_h (bound_n (size q.tree)) (bound_k (size q.tree))) → IsBounded q 0 }
+        → ((p : ℕ) (u : List ℕ) → paths next 0 p u ≤ bound_h (bound_n (measure_of q)) (bound_k (measure_of q))) → IsBounded q 0 }
 {}
 
 /// At most one class of verdicts is right for a question. Two right degrees are equal. If a degree is right, exponential

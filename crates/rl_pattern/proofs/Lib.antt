@@ -44,4 +44,5 @@ pub mod Rising
 pub mod Chain
 pub mod ListedSpans
 pub mod Once
+mod Extending
 pub mod Undropped

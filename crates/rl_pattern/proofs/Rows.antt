@@ -7,7 +7,8 @@ use Rattle.std.proofs.lemmas.Bool.{eqb-false}
 use Rattle.std.proofs.lemmas.Option.{same_Some}
 use Rattle.rl_pattern.specs.Viable.{TooDeepAt}
 use Rattle.rl_pattern.proofs.Deep.{Behind, seen_too_deep}
-use Rattle.rl_pattern.specs.Found.{Fault, fault, refused, Inner, inner, no_trail, dollar_trail, end_trail, is_locale, is_flag_clash, is_duplicate_name, is_code_too_large, is_reversed_range, is_repeat_too_large, is_repeat_order, is_possessive_count, is_backreference, is_lookaround, is_named_escape, is_inner_anchor}
+use Rattle.rl_pattern.specs.Profile.{Dollar, Refused, Dropped, LastLine, Wide}
+use Rattle.rl_pattern.specs.Found.{Fault, fault, refused, refused_in, Inner, inner, no_trail, dollar_trail, end_trail, is_locale, is_flag_clash, is_duplicate_name, is_code_too_large, is_reversed_range, is_repeat_too_large, is_repeat_order, is_possessive_count, is_backreference, is_lookaround, is_named_escape, is_inner_anchor}
 use Rattle.rl_pattern.specs.internal.Machine.{State, start, step_at, reads}
 
 -- The number of codes that the machine reads before it stops, plus one.
@@ -185,3 +186,28 @@ low_lit i c = leaf (span i (suc i)) both_letters (glyph (code c))
 fronts_with_blanks : inner_read no_flags (codes "(?x) (?i)a b #") ≡ Some (record { body = seq (span 9 14) (nodes (low_lit 9 97 ∷ low_lit 11 98 ∷ [])); leading = false; trail = no_trail })
 unfolding inner_read low_lit both_letters
 fronts_with_blanks = refl
+
+-- What a wide profile refuses in a text under these flags.
+wide_found : Dollar → Flags → List ℕ → Option (Option Fault)
+unfolding sign numeral is_digit hex begins_name goes_in_name slashed on_letter off_letter headed with_letter joined scoped_flags counts count_of
+wide_found d f w = option_map (refused_in (Wide d) f true) (reads f true w)
+
+looks_read : (wide_found Refused no_flags (codes "a(?=b)") ≡ Some None) × (wide_found Refused no_flags (codes "(?!a|[bc]|\\d)") ≡ Some None) × (wide_found Refused no_flags (codes "(?<=(?i:a)|(?:.))") ≡ Some None) × (wide_found Refused no_flags (codes "(?<!\\x41)(?:(?=a)b)*") ≡ Some None)
+unfolding wide_found
+looks_read = (refl, refl, refl, refl)
+
+looks_refused : (wide_found Dropped no_flags (codes "a(?=bc)") ≡ Some (Some (fault 1 is_lookaround))) × (wide_found Dropped no_flags (codes "(?!a|)") ≡ Some (Some (fault 0 is_lookaround))) × (wide_found Dropped no_flags (codes "(?<=(a))") ≡ Some (Some (fault 0 is_lookaround))) × (wide_found Dropped no_flags (codes "(?<!a?)") ≡ Some (Some (fault 0 is_lookaround)))
+unfolding wide_found
+looks_refused = (refl, refl, refl, refl)
+
+looks_nested : (wide_found Dropped no_flags (codes "(?=(?=a))") ≡ Some (Some (fault 0 is_lookaround))) × (wide_found Dropped no_flags (codes "(?=\\b)") ≡ Some (Some (fault 0 is_lookaround))) × (wide_found Dropped no_flags (codes "(?=$)") ≡ Some (Some (fault 0 is_lookaround))) × (wide_found Dropped no_flags (codes "(a)(?=\\1)") ≡ Some (Some (fault 3 is_lookaround)))
+unfolding wide_found
+looks_nested = (refl, refl, refl, refl)
+
+dollars_read : (wide_found Dropped no_flags (codes "a|b$") ≡ Some None) × (wide_found LastLine no_flags (codes "a(b|(c|d$))") ≡ Some None) × (wide_found LastLine no_flags (codes "(a$)$") ≡ Some None) × (wide_found Dropped no_flags (codes "(?:a\\Z|^$)") ≡ Some None)
+unfolding wide_found
+dollars_read = (refl, refl, refl, refl)
+
+dollars_refused : (wide_found Refused no_flags (codes "a|b$") ≡ Some (Some (fault 3 is_inner_anchor))) × (wide_found Dropped no_flags (codes "a$b") ≡ Some (Some (fault 1 is_inner_anchor))) × (wide_found Dropped no_flags (codes "(?:a$)*") ≡ Some (Some (fault 4 is_inner_anchor))) × (wide_found LastLine no_flags (codes "(a$)\\Z") ≡ Some (Some (fault 2 is_inner_anchor)))
+unfolding wide_found
+dollars_refused = (refl, refl, refl, refl)

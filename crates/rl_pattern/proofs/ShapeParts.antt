@@ -44,7 +44,7 @@ pub empty_right : (xs ys : List Fault) → xs ++ ys ≡ [] → ys ≡ []
 empty_right [] ys e = e
 empty_right (x ∷ xs) ys e = absurd (cc e)
 
-no_fault : (b : Bool) (i : ℕ) (f : Feature) → fault_if b i f ≡ [] → b ≡ false
+pub no_fault : (b : Bool) (i : ℕ) (f : Feature) → fault_if b i f ≡ [] → b ≡ false
 no_fault false i f e = refl
 no_fault true i f e = absurd (cc e)
 

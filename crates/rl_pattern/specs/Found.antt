@@ -1,8 +1,8 @@
--- What is refused in a syntax tree, and what is left of the tree if nothing is refused. A fault is a feature that is refused,
--- with its position. Positions count codes from 0. Of several faults the one that is reported is the first by position and, at
--- the same position, by rank. The outer anchors of a pattern with only one branch are the leading ones at its start, `\A` or
--- `^`, and the trailing ones at its end, `\Z` or `$`. `^` and `$` are among them only where MULTILINE isn't in
--- force.
+-- What is refused in a syntax tree, and what is left of the tree if nothing is refused. What is refused depends on a profile
+-- (`Profile.antt`). A fault is a feature that is refused, with its position. Positions count codes from 0. Of several faults
+-- the one that is reported is the first by position and, at the same position, by rank. The outer anchors of a pattern with
+-- only one branch are the leading ones at its start, `\A` or `^`, and the trailing ones at its end, `\Z` or `$`. `^` and `$`
+-- are among them only where MULTILINE isn't in force.
 use Rattle.std.specs.Prelude.{ℕ, Bool, true, false, not, ◌&&◌, ◌||◌, if◌then◌else◌, nat_lt, nat_le, ◌==◌, List, [], ◌∷◌, ◌++◌, reverse, flat_map, Option, Some, None, is_none}
 use Rattle.std.specs.List.{list_any}
 use Rattle.std.specs.Str.{bytes_eq}
@@ -121,7 +121,7 @@ kind_faults text i atomic = fault i is_atomic ∷ []
 kind_faults text i conditional = fault i is_conditional ∷ []
 kind_faults text i _ = []
 
--- Whether a group of this kind is only written for its flags or its parentheses: it captures nothing and isn't refused.
+-- Whether it is the kind of a group that doesn't capture, such as `(?:..)` or `(?i:..)`.
 abbrev pub is_scoped : Kind → Bool
 is_scoped (scoped on off) = true
 is_scoped _ = false

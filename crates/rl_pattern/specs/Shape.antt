@@ -133,8 +133,8 @@ abbrev pub is_greedy : Greed → Bool
 is_greedy greedy = true
 is_greedy _ = false
 
--- The group of this kind around the body `p`. A `capturing` or `named` group captures, a `scoped` one doesn't. A lookaround,
--- an atomic group or a conditional, all of which are refused, becomes `outside`, without its body.
+-- The group of this kind around the body `p`. A `capturing` or `named` group captures, a `scoped` one doesn't. A lookaround
+-- that isn't read, an atomic group or a conditional, all of which are refused, becomes `outside`, without its body.
 abbrev pub group_shape : Span → Kind → s.PatTree → s.PatTree
 group_shape place (scoped on off) p = s.group place false p
 group_shape place (lookaround behind negated) p = s.outside place is_lookaround

@@ -48,8 +48,8 @@ abbrev mutual
   branch_capture no_branches = false
   branch_capture (branch s p bs) = holds_capture p || branch_capture bs
 
--- Whether a part is a guard or contains one. A guard is an anchor or a word boundary. A group that is refused (`outside`) has
--- lost its body and counts as none.
+-- Whether a part is a guard or contains one. A guard is an anchor, a word boundary or a lookaround of one character. A group
+-- that is refused (`outside`) has lost its body and counts as none.
 abbrev mutual
   pub holds_guard : PatTree → Bool
   holds_guard (nothing s) = false

@@ -243,7 +243,7 @@ fn kind_fault(text: bool, place: u32, kind: &Kind) -> Option<Fault>
     }
 }
 
-/// Whether a group of this kind captures nothing and isn't refused.
+/// Whether it is the kind of a group that doesn't capture, such as `(?:..)` or `(?i:..)`.
 fn is_scoped(kind: &Kind) -> bool
     ensures { result ≡ f.is_scoped kind.now }
 {

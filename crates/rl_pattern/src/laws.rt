@@ -1,12 +1,14 @@
 //! Laws of spelling and parsing, which hold for all texts of patterns. The functions do nothing; their `ensures` clauses are
 //! the laws. Codes spell a syntax tree by the grammar. A suggestion for a pattern drops branches and removes quantifiers. A
-//! guard is an anchor or a word boundary.
+//! guard is an anchor, a word boundary or a lookaround.
 
-ghost use Rattle.std.specs.Prelude.{◌≡◌, ◌⊎◌, ℕ, Bool, true, List, [], length, Result, Ok, Err};
+ghost use Rattle.std.specs.Prelude.{◌≡◌, ◌⊎◌, ℕ, Bool, true, false, List, [], length, Result, Ok, Err};
 ghost use Rattle.rl_ranges.specs.declared.universe.Universe.{Universe};
 ghost use Rattle.rl_syntax.specs.declared.span.Span.{Span};
 ghost use Rattle.rl_syntax.specs.declared.pattern.Pattern.{Pattern};
-ghost use Rattle.rl_syntax.specs.Pattern.{body_of};
+ghost use Rattle.rl_syntax.specs.declared.re.Mode.{Mode};
+ghost use Rattle.rl_syntax.specs.Pattern.{body_of, pattern_tree};
+ghost use Rattle.rl_syntax.specs.Tree.{has_look};
 ghost use Rattle.rl_syntax.specs.Lowering.{lowered};
 ghost use Rattle.rl_syntax.specs.SameSpans.{SameSpans};
 ghost use Rattle.rl_pattern.specs.declared.flags.Flags.{Flags};
@@ -15,13 +17,14 @@ ghost use Rattle.rl_pattern.specs.declared.parsing.PatError.TheVariants as error
 ghost use Rattle.rl_pattern.specs.Tree.{Whole};
 ghost use Rattle.rl_pattern.specs.Grammar.{Spells};
 ghost use Rattle.rl_pattern.specs.Parsed.{IsParsed};
+ghost use Rattle.rl_pattern.specs.Beyond.{Dollar, IsParsedBeyond};
 ghost use Rattle.rl_pattern.specs.internal.Meeting.{Thinned};
 ghost use Rattle.rl_pattern.specs.internal.Left.{LeftWhole};
 ghost use Rattle.rl_pattern.specs.Cut.{remaining};
 ghost use Rattle.rl_pattern.specs.Suggested.{among, no_span, may_go, holds_guard, branches_in, merged_in, text_of, without};
 ghost use Rattle.rl_pattern.specs.Reread.{IsRemaining, IsReread};
 ghost use Rattle.rl_pattern.specs.Placed.{ArePlaced};
-ghost use Rattle.rl_pattern.specs.SameAnswer.{IsSameAnswer};
+ghost use Rattle.rl_pattern.specs.SameAnswer.{IsSameAnswer, IsSamePattern};
 
 /// States that the grammar is unambiguous: under the flags of a call, codes spell at most one syntax tree.
 pub fn codes_spell_one_tree()
@@ -33,6 +36,22 @@ pub fn codes_spell_one_tree()
 pub fn parsed_once()
     ensures { (flags : Flags) (u : Universe) (w : List ℕ) (r s : Result Pattern PatError) → IsParsed flags u w r → IsParsed flags u w s
         → (r ≡ Err error.OutOfMemory) ⊎ ((s ≡ Err error.OutOfMemory) ⊎ IsSameAnswer r s) }
+{}
+
+/// States that the wider grammar extends the narrower one. If `parse` returns a pattern, `parse_beyond` returns the same pattern,
+/// whatever becomes of a `$`, unless it runs out of memory.
+pub fn beyond_extends()
+    ensures same { (dollar : Dollar) (flags : Flags) (u : Universe) (w : List ℕ) (found new : Pattern) → IsParsed flags u w (Ok found)
+        → IsParsedBeyond dollar flags u w (Ok new) → IsSamePattern found new }
+    ensures reads { (dollar : Dollar) (flags : Flags) (u : Universe) (w : List ℕ) (found : Pattern) (r : Result Pattern PatError)
+        → IsParsed flags u w (Ok found) → IsParsedBeyond dollar flags u w r
+        → (r ≡ Err error.OutOfMemory) ⊎ ((new : Pattern) × (r ≡ Ok new) × IsSamePattern found new) }
+{}
+
+/// States that the tree of a pattern that `parse` returns has no lookaround, in any mode.
+pub fn parsed_holds_no_look()
+    ensures { (flags : Flags) (u : Universe) (w : List ℕ) (found : Pattern) (mode : Mode) → IsParsed flags u w (Ok found)
+        → has_look (pattern_tree found mode) ≡ false }
 {}
 
 /// States that the spans listed for a suggestion lie in the pattern and are in ascending order: those of all branches, and

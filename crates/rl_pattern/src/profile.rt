@@ -12,8 +12,8 @@ pub enum Dollar {
     Refused,
     /// It is dropped. This is right if a match must end at the end of the text anyway.
     Dropped,
-    /// It becomes an optional line feed, which is lazy, and a `\Z`. This is right if only what a match contains up to its end
-    /// matters, as for `match` and `search`.
+    /// It becomes an optional line feed, which is lazy, and a `\Z`, as a `$` at the end of a pattern does in `match` and
+    /// `search`. A match then contains that line feed.
     LastLine,
 }
 

@@ -246,8 +246,8 @@ fn group_of(alloc: Global, span: Span, captures: bool, body: Pat) -> Result<Pat,
     })
 }
 
-/// Returns a group of this kind with this body. A lookaround, an atomic group or a conditional becomes [`Pat::Outside`], and
-/// the body is dropped.
+/// Returns a group of this kind with this body. A lookaround that isn't read, an atomic group or a conditional becomes
+/// [`Pat::Outside`], and the body is dropped.
 fn group_pat(alloc: Global, span: Span, kind: &Kind, body: Pat) -> Result<Pat, OutOfMemory>
     ensures { IfOk result (λ found. pat_of found ≡ p.group_shape span kind.now (pat_of body)) }
 {

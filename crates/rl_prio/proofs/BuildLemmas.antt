@@ -3,7 +3,7 @@ use Rattle.std.proofs.Common.{◌≡◌, ℕ, zero, suc, ◌+◌, ◌*◌, ◌-�
 use Rattle.std.specs.Prelude.{if◌then◌else◌}
 use Rattle.std.proofs.Math.Nat.{div-lt_iff_lt-mul}
 use Rattle.std.proofs.lemmas.Bool.{cases_lt, cond-true, cond-false, cond_both, lt-ltb, le-ltb, eq-eqb, ne_eqb}
-use Rattle.std.proofs.lemmas.List.{length-append, length-map, get_or-map, get_or_append_left, get_or-append_right}
+use Rattle.std.proofs.lemmas.List.{get_or_default, length-append, length-map, get_or-map, get_or_append_left, get_or-append_right}
 use Rattle.std.proofs.lemmas.List.Elements.{All-nil, All-cons, All-append}
 use Rattle.std.proofs.lemmas.Option.{slice_get-get_or, slice_get_past}
 use Rattle.rl_ranges.specs.Text.{code_count}
@@ -20,7 +20,7 @@ use Rattle.rl_prio.specs.Letters.{all_sets, kinds, kind_of}
 use Rattle.rl_prio.specs.States.{place_states, state_of, accepting, dead, state_count, test_target, ends_here, end_target, moves_on, items_of, kind_before, moves_over}
 use Rattle.rl_prio.specs.Automaton.{Automaton, IsAutomaton}
 use Rattle.rl_prio.specs.StandsFor.{StandsOver}
-use Rattle.rl_prio.specs.internal.GuardSets.{guard_set, shown, holding}
+use Rattle.rl_prio.specs.internal.GuardSets.{guard_set, shown, nothing_shown, code_shown, holding}
 use Rattle.rl_prio.specs.internal.Attempts.{attempts, lists_of}
 use Rattle.rl_prio.specs.internal.Plans.{plan_letters, plan_kinds, plan_place_states, plan_states, holds_at, test_goes, may_end, end_goes, moves_of, attempts_at, before_at, row_at, IsPlaced, IsSound, AreRows, IsPlan}
 use Rattle.rl_prio.specs.declared.build.guards.Shown.{Shown}
@@ -36,8 +36,7 @@ use Rattle.rl_prio.specs.Errors.{letters_error}
 use Rattle.rl_prio.specs.internal.Errors.{list_error}
 use Rattle.rl_prio.proofs.AutomatonLemmas.{automaton_of, moves_at-inside}
 use Rattle.rl_prio.proofs.LikenessLemmas.{Finer, Finer-itself, Finer-left, Finer-right, Like, Like-finer, all_hold-like, ItemsKnown, first-known, after-known, set_of-alike}
-use Rattle.rl_prio.proofs.KindLemmas.{few_kinds}
-use Rattle.rl_prio.proofs.GuardLemmas.{met-all_hold}
+use Rattle.rl_prio.proofs.GuardLemmas.{Below, met-all_hold}
 use Rattle.rl_prio.proofs.WidthLemmas.{length-lists_of, lists-at}
 use Rattle.rl_prio.proofs.PlanLemmas.{place_state}
 
@@ -89,6 +88,17 @@ set_at (many e greedy) b k c d lt = set_at e b k c d lt
 pub sample-below : (table : LetterTable) (sets : List (ℕ → Bool)) (n l : ℕ) → IsLetters table sets n → l < length table.samples → get_or table.samples l 0 < n
 sample-below table sets n l h lt = (h.same_sample l lt).within
 
+-- No sample is outside the codes.
+samples-below : (table : LetterTable) (sets : List (ℕ → Bool)) (n l : ℕ) → IsLetters table sets n → Below n (slice_get table.samples l)
+samples-below table sets n l h = elim (cases_lt l (length table.samples)) [
+  | inl lt ↦ subst (Below n) (sym (slice_get-get_or table.samples l 0 lt)) (sample-below table sets n l h lt)
+  | inr le ↦ subst (Below n) (sym (slice_get_past table.samples l le)) tt
+]
+
+-- All samples are codes.
+pub all-samples-below : (table : LetterTable) (sets : List (ℕ → Bool)) (n : ℕ) → IsLetters table sets n → All (λ c. c < n) table.samples
+all-samples-below table sets n h = λ k d lt. omega (arith, get_or_default table.samples k d 0 lt, sample-below table sets n k h lt)
+
 sample-alike : (table : LetterTable) (sets : List (ℕ → Bool)) (n l : ℕ) → IsLetters table sets n → l < length table.samples
     → alike sets (get_or table.samples l 0) (get_or (classes sets n) l 0) ≡ true
 sample-alike table sets n l h lt =
@@ -114,27 +124,27 @@ single_at x zero = refl
 single_at x (suc j) = refl
 
 -- What codes show, the end letter behind them.
-shown_end : (codes : List ℕ) (l : ℕ) → get_or (map (λ c. shown (Some c)) codes ++ shown None ∷ []) l (shown None) ≡ shown (slice_get codes l)
-shown_end codes l =
-    let f : ℕ → Shown = λ c. shown (Some c) in
+shown_end : (kinds : LetterTable) (codes : List ℕ) (l : ℕ) → get_or (map (code_shown kinds) codes ++ nothing_shown ∷ []) l nothing_shown ≡ shown kinds (slice_get codes l)
+shown_end kinds codes l =
+    let f : ℕ → Shown = code_shown kinds in
     let size : length (map f codes) ≡ length codes = length-map codes f in
     elim (cases_lt l (length codes)) [
       | inl lt ↦
           let inside : l < length (map f codes) = omega arith in
-          get_or_append_left (map f codes) (shown None ∷ []) (shown None) l inside ∙ get_or-map f codes l 0 (shown None) lt
-          ∙ ap shown (sym (slice_get-get_or codes l 0 lt))
+          get_or_append_left (map f codes) (nothing_shown ∷ []) nothing_shown l inside ∙ get_or-map f codes l 0 nothing_shown lt
+          ∙ ap (shown kinds) (sym (slice_get-get_or codes l 0 lt))
       | inr le ↦
-          get_or-append_right (map f codes) (shown None ∷ []) (length codes) l (shown None) size le ∙ single_at (shown None) (l - length codes)
-          ∙ ap shown (sym (slice_get_past codes l le))
+          get_or-append_right (map f codes) (nothing_shown ∷ []) (length codes) l nothing_shown size le ∙ single_at nothing_shown (l - length codes)
+          ∙ ap (shown kinds) (sym (slice_get_past codes l le))
     ]
 
-shown_all : (codes : List ℕ) (l : ℕ) → l < length codes → get_or (map (λ c. shown (Some c)) codes) l (shown None) ≡ shown (slice_get codes l)
-shown_all codes l lt = get_or-map (λ c. shown (Some c)) codes l 0 (shown None) lt ∙ ap shown (sym (slice_get-get_or codes l 0 lt))
+shown_all : (kinds : LetterTable) (codes : List ℕ) (l : ℕ) → l < length codes → get_or (map (code_shown kinds) codes) l nothing_shown ≡ shown kinds (slice_get codes l)
+shown_all kinds codes l lt = get_or-map (code_shown kinds) codes l 0 nothing_shown lt ∙ ap (shown kinds) (sym (slice_get-get_or codes l 0 lt))
 
-placed_items : (sets : List (ℕ → Bool)) (n : ℕ) (l : List Item) → ItemsKnown sets n l → All (IsPlaced n) (attempts l)
-placed_items sets n [] h = All-nil (IsPlaced n)
-placed_items sets n (test_at gs k ∷ l) h = All-cons (IsPlaced n) (Test (guard_set gs) k) (attempts l) h.1 (placed_items sets n l h.2)
-placed_items sets n (pass gs ∷ l) h = All-cons (IsPlaced n) (End (guard_set gs)) (attempts l) tt (placed_items sets n l h.1)
+placed_items : (table : LetterTable) (sets : List (ℕ → Bool)) (n : ℕ) (l : List Item) → ItemsKnown sets n l → All (IsPlaced n) (attempts table l)
+placed_items table sets n [] h = All-nil (IsPlaced n)
+placed_items table sets n (test_at gs k ∷ l) h = All-cons (IsPlaced n) (Test (guard_set table gs) k) (attempts table l) h.1 (placed_items table sets n l h.2)
+placed_items table sets n (pass gs ∷ l) h = All-cons (IsPlaced n) (End (guard_set table gs)) (attempts table l) tt (placed_items table sets n l h.1)
 
 -- ---- the plan of a tree
 
@@ -145,10 +155,10 @@ module _ (p : Plan) (t : Tree) (sets : List (ℕ → Bool)) (n : ℕ) (lt kt : L
     letters_are = ap length plan.same_kinds ∙ length-map lt.samples (letter_at kt)
 
     kinds_are : plan_kinds p ≡ length (kinds t n)
-    kinds_are = omega (arith, ap length plan.same_before, length-map kt.samples (λ c. shown (Some c)), is_kinds.same_count)
+    kinds_are = omega (arith, ap length plan.same_before, length-map kt.samples (code_shown kt), is_kinds.same_count)
 
     places_are : length p.after.items ≡ places t
-    places_are = ap length plan.same_after ∙ length-map (lists_of t 0) attempts ∙ length-lists_of t 0
+    places_are = ap length plan.same_after ∙ length-map (lists_of t 0) (attempts kt) ∙ length-lists_of t 0
 
     place_states_are : plan_place_states p ≡ place_states t n
     place_states_are = ap₂ (λ x y. x * y) places_are kinds_are
@@ -160,22 +170,27 @@ module _ (p : Plan) (t : Tree) (sets : List (ℕ → Bool)) (n : ℕ) (lt kt : L
     before_code zero = None
     before_code (suc r) = slice_get kt.samples (r % length (kinds t n))
 
-    before-shown : (q : ℕ) → before_at p q ≡ shown (before_code q)
+    before-shown : (q : ℕ) → before_at p q ≡ shown kt (before_code q)
     unfolding before_at before_code
-    before-shown zero = ap (λ l. get_or l 0 (shown None)) plan.same_before
+    before-shown zero = ap (λ l. get_or l 0 nothing_shown) plan.same_before
     before-shown (suc r) =
         let j = r % plan_kinds p in
         let below : j < length kt.samples = omega (arith, kinds_are, some_kind, is_kinds.same_count) in
-        ap (λ l. get_or l (suc j) (shown None)) plan.same_before ∙ shown_all kt.samples j below
-        ∙ ap (λ g. shown (slice_get kt.samples (r % g))) kinds_are
+        ap (λ l. get_or l (suc j) nothing_shown) plan.same_before ∙ shown_all kt kt.samples j below
+        ∙ ap (λ g. shown kt (slice_get kt.samples (r % g))) kinds_are
+
+    before-below : (q : ℕ) → Below n (before_code q)
+    unfolding before_code
+    before-below zero = tt
+    before-below (suc r) = samples-below kt (guard_sets t) n (r % length (kinds t n)) is_kinds
 
     before-like : (q : ℕ) → Like (guard_sets t) (before_code q) (kind_before t n q)
     unfolding before_code
     before-like zero = tt
     before-like (suc r) = sample-like kt (guard_sets t) n (r % length (kinds t n)) is_kinds
 
-    next-shown : (l : ℕ) → get_or p.next.items l (shown None) ≡ shown (slice_get lt.samples l)
-    next-shown l = ap (λ x. get_or x l (shown None)) plan.same_next ∙ shown_end lt.samples l
+    next-shown : (l : ℕ) → get_or p.next.items l nothing_shown ≡ shown kt (slice_get lt.samples l)
+    next-shown l = ap (λ x. get_or x l nothing_shown) plan.same_next ∙ shown_end kt lt.samples l
 
     known-items : (q : ℕ) → ItemsKnown (guard_sets t) (places t) (items_of t n q)
     known-items zero = first-known (guard_sets t) (places t) t 0 (omega arith) (Finer-itself (guard_sets t))
@@ -183,7 +198,7 @@ module _ (p : Plan) (t : Tree) (sets : List (ℕ → Bool)) (n : ℕ) (lt kt : L
         cond_both (nat_lt r (place_states t n)) (after t 0 (r / length (kinds t n))) [] (ItemsKnown (guard_sets t) (places t))
         (λ _. after-known (guard_sets t) (places t) t 0 (r / length (kinds t n)) (omega arith) (Finer-itself (guard_sets t))) (λ _. tt)
 
-    attempts-items : (q : ℕ) → attempts_at p q ≡ attempts (items_of t n q)
+    attempts-items : (q : ℕ) → attempts_at p q ≡ attempts kt (items_of t n q)
     unfolding attempts_at
     attempts-items zero = plan.same_first
     attempts-items (suc r) =
@@ -197,23 +212,23 @@ module _ (p : Plan) (t : Tree) (sets : List (ℕ → Bool)) (n : ℕ) (lt kt : L
               cond-true (nat_lt r (plan_place_states p)) there [] (lt-ltb r (plan_place_states p) (omega (arith, place_states_are)))
               ∙ ap (λ k. get_or p.after.items (r / k) []) kinds_are
               ∙ ap (λ l. get_or l (r / g) []) plan.same_after
-              ∙ get_or-map attempts (lists_of t 0) (r / g) [] [] known
-              ∙ ap attempts (lists-at t (r / g) below ∙ sym (cond-true (nat_lt r (place_states t n)) here [] (lt-ltb r (place_states t n) h)))
+              ∙ get_or-map (attempts kt) (lists_of t 0) (r / g) [] [] known
+              ∙ ap (attempts kt) (lists-at t (r / g) below ∙ sym (cond-true (nat_lt r (place_states t n)) here [] (lt-ltb r (place_states t n) h)))
           | inr h ↦
               cond-false (nat_lt r (plan_place_states p)) there [] (le-ltb r (plan_place_states p) (omega (arith, place_states_are)))
-              ∙ ap attempts (sym (cond-false (nat_lt r (place_states t n)) here [] (le-ltb r (place_states t n) h)))
+              ∙ ap (attempts kt) (sym (cond-false (nat_lt r (place_states t n)) here [] (le-ltb r (place_states t n) h)))
         ]
 
-    pub sound-plan : size t ≤ MOST_NODES → length lt.samples ≤ MOST_LETTERS → IsSound p
-    sound-plan small few =
+    pub sound-plan : size t ≤ MOST_NODES → length lt.samples ≤ MOST_LETTERS → length kt.samples ≤ MOST_LETTERS → IsSound p
+    sound-plan small few few_kt =
         let all : length p.members.items ≡ places t =
         ap length plan.same_members ∙ length-map (sets_in t) (λ set. map set lt.samples) ∙ length-sets_in t in
         record {
           few_places = omega (arith, places_are, places-small t);
           some_kind = omega (arith, kinds_are, some_kind);
-          few_kinds = omega (arith, kinds_are, few_kinds t n);
+          few_kinds = omega (arith, kinds_are, is_kinds.same_count);
           few_letters = omega (arith, letters_are);
-          next_count = omega (arith, ap length plan.same_next, length-append (map (λ c. shown (Some c)) lt.samples) (shown None ∷ []), length-map lt.samples (λ c. shown (Some c)), letters_are);
+          next_count = omega (arith, ap length plan.same_next, length-append (map (code_shown kt) lt.samples) (nothing_shown ∷ []), length-map lt.samples (code_shown kt), letters_are);
           same_places = all ∙ sym places_are;
           same_letters = λ k k_in.
               let here : k < length (sets_in t) = omega (arith, length-sets_in t) in
@@ -229,12 +244,12 @@ module _ (p : Plan) (t : Tree) (sets : List (ℕ → Bool)) (n : ℕ) (lt kt : L
               omega (arith, kind, class_of-lt (guard_sets t) n s (sample-below lt sets n l is_letters here), kinds_are);
           placed = λ q.
               subst (λ m. All (IsPlaced m) (attempts_at p q)) (sym places_are)
-              (subst (All (IsPlaced (places t))) (sym (attempts-items q)) (placed_items (guard_sets t) (places t) (items_of t n q) (known-items q)));
+              (subst (All (IsPlaced (places t))) (sym (attempts-items q)) (placed_items kt (guard_sets t) (places t) (items_of t n q) (known-items q)));
         }
 
     -- ---- the moves
 
-    module _ (finer : Finer sets (all_sets t)) where
+    module _ (finer : Finer sets (all_sets t)) (few_kt : length kt.samples ≤ MOST_LETTERS) where
       holds-set : (place l : ℕ) → place < places t → l < length lt.samples → holds_at p place l ≡ set_of t 0 place (get_or (classes sets n) l 0)
       unfolding holds_at
       holds-set place l p_in l_in =
@@ -298,28 +313,28 @@ module _ (p : Plan) (t : Tree) (sets : List (ℕ → Bool)) (n : ℕ) (lt kt : L
           ∙ ap (λ b. if b then plan_place_states p + 1 else plan_place_states p + 2) (may_end-is ending l le)
           ∙ ap₂ (λ x y. if ends_here ending (slice_get (classes sets n) l) then x else y) acc dead-is
 
-      moves-same : (l : ℕ) (b c d : Option ℕ) → l ≤ length lt.samples → Like (guard_sets t) b c → Like sets d (slice_get (classes sets n) l) → (items : List Item)
+      moves-same : (l : ℕ) (b c d : Option ℕ) → l ≤ length lt.samples → Below n b → Below n d → Like (guard_sets t) b c → Like sets d (slice_get (classes sets n) l) → (items : List Item)
           → ItemsKnown (guard_sets t) (places t) items
-          → moves_of p (holding (shown b) (shown d)) l (attempts items) ≡ moves_on t ending n c (slice_get (classes sets n) l) items
-      moves-same l b c d le before next [] known = refl
-      moves-same l b c d le before next (test_at gs k ∷ items) known =
+          → moves_of p (holding (shown kt b) (shown kt d)) l (attempts kt items) ≡ moves_on t ending n c (slice_get (classes sets n) l) items
+      moves-same l b c d le b_in d_in before next [] known = refl
+      moves-same l b c d le b_in d_in before next (test_at gs k ∷ items) known =
           let o = slice_get (classes sets n) l in
           let nearer = Like-finer sets (guard_sets t) d o (Finer-right sets (sets_in t) (guard_sets t) finer) next in
           ap₂ (λ x y. x ++ y)
-          (ap₂ (λ x y. if x then y ∷ [] else []) (met-all_hold gs b d ∙ all_hold-like (guard_sets t) gs b c d o known.0 before nearer) (test-same k l known.1))
-          (moves-same l b c d le before next items known.2)
-      moves-same l b c d le before next (pass gs ∷ items) known =
+          (ap₂ (λ x y. if x then y ∷ [] else []) (met-all_hold kt (guard_sets t) n is_kinds few_kt gs b d known.0 b_in d_in ∙ all_hold-like (guard_sets t) gs b c d o known.0 before nearer) (test-same k l known.1))
+          (moves-same l b c d le b_in d_in before next items known.2)
+      moves-same l b c d le b_in d_in before next (pass gs ∷ items) known =
           let o = slice_get (classes sets n) l in
           let nearer = Like-finer sets (guard_sets t) d o (Finer-right sets (sets_in t) (guard_sets t) finer) next in
           ap₂ (λ x y. x ++ y)
-          (ap₂ (λ x y. if x then y ∷ [] else []) (met-all_hold gs b d ∙ all_hold-like (guard_sets t) gs b c d o known.0 before nearer) (end-same l le))
-          (moves-same l b c d le before next items known.1)
+          (ap₂ (λ x y. if x then y ∷ [] else []) (met-all_hold kt (guard_sets t) n is_kinds few_kt gs b d known.0 b_in d_in ∙ all_hold-like (guard_sets t) gs b c d o known.0 before nearer) (end-same l le))
+          (moves-same l b c d le b_in d_in before next items known.1)
 
       row-same : (q l : ℕ) → l ≤ length lt.samples → row_at p q l ≡ moves_over sets t ending n q l
       row-same q l le =
           ap₂ (λ x y. moves_of p (holding x y) l (attempts_at p q)) (before-shown q) (next-shown l)
-          ∙ ap (moves_of p (holding (shown (before_code q)) (shown (slice_get lt.samples l))) l) (attempts-items q)
-          ∙ moves-same l (before_code q) (kind_before t n q) (slice_get lt.samples l) le (before-like q) (sample-like lt sets n l is_letters) (items_of t n q) (known-items q)
+          ∙ ap (moves_of p (holding (shown kt (before_code q)) (shown kt (slice_get lt.samples l))) l) (attempts-items q)
+          ∙ moves-same l (before_code q) (kind_before t n q) (slice_get lt.samples l) le (before-below q) (samples-below lt sets n l is_letters) (before-like q) (sample-like lt sets n l is_letters) (items_of t n q) (known-items q)
 
       -- The moves lead to states.
       test-below : (place l : ℕ) → place < places t → test_target t n place (slice_get (classes sets n) l) < state_count t n

@@ -1,16 +1,19 @@
--- How many kinds and states there are at most. Guards name three sets at most: the line feed, the ASCII words and the words.
-use Rattle.std.proofs.Common.{◌≡◌, ℕ, zero, suc, ◌+◌, ◌*◌, ◌<◌, ◌≤◌, Bool, true, false, ◌==◌, List, [], ◌∷◌, ◌++◌, length, get_or, if◌then◌else◌, ⊎_elim, refl, sym, ap, ◌∙◌, arith}
+-- How many kinds and states there are at most. Guards other than lookarounds name three sets at most: the line feed, the ASCII
+-- words and the words.
+use Rattle.std.proofs.Common.{◌≡◌, ℕ, zero, suc, ◌+◌, ◌*◌, ◌<◌, ◌≤◌, Bool, true, false, ◌==◌, ◌||◌, List, [], ◌∷◌, ◌++◌, length, get_or, if◌then◌else◌, ⊎_elim, refl, sym, ap, ◌∙◌, arith}
 use Rattle.std.proofs.Math.Bool.{beq}
-use Rattle.std.proofs.lemmas.Bool.{and_from, cases_eq, cond-true, cond-false, eq-eqb, ne_eqb, eqb-true}
+use Rattle.std.proofs.lemmas.Bool.{and_from, cases_eq, cond-true, cond-false, cond_both, eq-eqb, ne_eqb, eqb-true, false≢true}
 use Rattle.std.proofs.lemmas.Nat.{mul-le}
-use Rattle.rl_ranges.specs.Letters.{alike, classes}
-use Rattle.rl_ranges.proofs.LetterLemmas.{alike-append, beq-from, class_of-first, class_of-lt, class_of-same}
+use Rattle.rl_ranges.specs.Letters.{alike, classes, class_of}
+use Rattle.rl_ranges.proofs.LetterLemmas.{alike-append, beq-from, class_of-first, class_of-lt, class_of-same, class_of-only, classes-below}
 use Rattle.rl_syntax.specs.declared.anchors.Guard.{Guard}
-use Rattle.rl_syntax.specs.declared.anchors.Guard.TheVariants.{Start, LineStart, LineEnd, TextEnd, Word, NotWord}
-use Rattle.rl_syntax.specs.Guards.{is_word, is_line_feed, sets_named}
-use Rattle.rl_syntax.specs.Tree.{Tree, empty, one, guard, both, either, many, size, places, guards_in, guard_sets}
-use Rattle.rl_prio.specs.Letters.{kinds}
+use Rattle.rl_syntax.specs.declared.anchors.Guard.TheVariants.{Start, LineStart, LineEnd, TextEnd, Word, NotWord, Look}
+use Rattle.rl_syntax.specs.Guards.{is_word, is_line_feed, is_look, sets_named}
+use Rattle.rl_syntax.specs.Tree.{Tree, empty, one, guard, both, either, many, size, places, sets_in, guards_in, guard_sets, has_look}
+use Rattle.rl_prio.specs.Letters.{all_sets, kinds}
+use Rattle.rl_prio.specs.Measure.{measure}
 use Rattle.rl_prio.specs.States.{state_count}
+use Rattle.rl_prio.proofs.LikenessLemmas.{Finer, Finer-right}
 use Rattle.rl_prio.proofs.WordLemmas.{ascii_words_are_words}
 
 -- A number below `m` for each index, all different: there are at most `m`.
@@ -98,33 +101,60 @@ kind_tells c d e =
 one_set : (s : ℕ → Bool) (c d : ℕ) → s c ≡ s d → alike (s ∷ []) c d ≡ true
 one_set s c d e = and_from (beq (s c) (s d)) true (beq-from (s c) (s d) e) refl
 
-named_alike : (g : Guard) (c d : ℕ) → kind_value c ≡ kind_value d → alike (sets_named g) c d ≡ true
-named_alike Start c d e = refl
-named_alike LineStart c d e = one_set is_line_feed c d (kind_tells c d e).0
-named_alike LineEnd c d e = one_set is_line_feed c d (kind_tells c d e).0
-named_alike TextEnd c d e = refl
-named_alike (Word true) c d e = one_set (is_word true) c d (kind_tells c d e).1
-named_alike (Word false) c d e = one_set (is_word false) c d (kind_tells c d e).2
-named_alike (NotWord true) c d e = one_set (is_word true) c d (kind_tells c d e).1
-named_alike (NotWord false) c d e = one_set (is_word false) c d (kind_tells c d e).2
+named_alike : (g : Guard) (c d : ℕ) → is_look g ≡ false → kind_value c ≡ kind_value d → alike (sets_named g) c d ≡ true
+named_alike Start c d plain e = refl
+named_alike LineStart c d plain e = one_set is_line_feed c d (kind_tells c d e).0
+named_alike LineEnd c d plain e = one_set is_line_feed c d (kind_tells c d e).0
+named_alike TextEnd c d plain e = refl
+named_alike (Word true) c d plain e = one_set (is_word true) c d (kind_tells c d e).1
+named_alike (Word false) c d plain e = one_set (is_word false) c d (kind_tells c d e).2
+named_alike (NotWord true) c d plain e = one_set (is_word true) c d (kind_tells c d e).1
+named_alike (NotWord false) c d plain e = one_set (is_word false) c d (kind_tells c d e).2
+named_alike (Look behind negated ranges) c d plain e = absurd (false≢true (sym plain))
 
 both_alike : (xs ys : List (ℕ → Bool)) (c d : ℕ) → alike xs c d ≡ true → alike ys c d ≡ true → alike (xs ++ ys) c d ≡ true
 both_alike xs ys c d p q = alike-append xs ys c d ∙ and_from (alike xs c d) (alike ys c d) p q
 
-guards_alike : (t : Tree) (c d : ℕ) → kind_value c ≡ kind_value d → alike (guard_sets t) c d ≡ true
-guards_alike empty c d e = refl
-guards_alike (one s) c d e = refl
-guards_alike (guard g) c d e = named_alike g c d e
-guards_alike (both x y) c d e = both_alike (guard_sets x) (guard_sets y) c d (guards_alike x c d e) (guards_alike y c d e)
-guards_alike (either x y) c d e = both_alike (guard_sets x) (guard_sets y) c d (guards_alike x c d e) (guards_alike y c d e)
-guards_alike (many x greedy) c d e = guards_alike x c d e
+-- Neither is, if not one of them is.
+neither : (x y : Bool) → (x || y) ≡ false → (x ≡ false) × (y ≡ false)
+neither true y e = absurd (false≢true (sym e))
+neither false y e = (refl, e)
+
+guards_alike : (t : Tree) → has_look t ≡ false → (c d : ℕ) → kind_value c ≡ kind_value d → alike (guard_sets t) c d ≡ true
+guards_alike empty plain c d e = refl
+guards_alike (one s) plain c d e = refl
+guards_alike (guard g) plain c d e = named_alike g c d plain e
+guards_alike (both x y) plain c d e =
+    let parts = neither (has_look x) (has_look y) plain in
+    both_alike (guard_sets x) (guard_sets y) c d (guards_alike x parts.0 c d e) (guards_alike y parts.1 c d e)
+guards_alike (either x y) plain c d e =
+    let parts = neither (has_look x) (has_look y) plain in
+    both_alike (guard_sets x) (guard_sets y) c d (guards_alike x parts.0 c d e) (guards_alike y parts.1 c d e)
+guards_alike (many x greedy) plain c d e = guards_alike x plain c d e
 
 kind_below : (c : ℕ) → kind_value c < 4
 unfolding kind_value
 kind_below c = value_below (is_line_feed c) (is_word true c) (is_word false c)
 
-pub few_kinds : (t : Tree) (n : ℕ) → length (kinds t n) ≤ 4
-few_kinds t n = few_classes (guard_sets t) n 4 kind_value kind_below (guards_alike t)
+pub few_kinds : (t : Tree) (n : ℕ) → has_look t ≡ false → length (kinds t n) ≤ 4
+few_kinds t n plain = few_classes (guard_sets t) n 4 kind_value kind_below (guards_alike t plain)
+
+-- Sets that distinguish more have no fewer classes.
+finer_classes : (sets others : List (ℕ → Bool)) (n : ℕ) → Finer sets others → length (classes others n) ≤ length (classes sets n)
+finer_classes sets others n finer =
+    let l = classes others n in
+    let code = λ (i : ℕ). get_or l i 0 in
+    pigeonholes (length (classes sets n)) (λ i. class_of sets n (code i)) (length l)
+    (λ i lt. class_of-lt sets n (code i) (classes-below others n i lt))
+    (λ i j lt in_l e.
+    let in_i : i < length l = omega arith in
+    let together : alike sets (code i) (code j) ≡ true = class_of-only sets n (code i) (code j) (classes-below others n i in_i) (classes-below others n j in_l) e in
+    let one_class : i ≡ j =
+    sym (class_of-first others n i in_i) ∙ class_of-same others n (code i) (code j) (finer (code i) (code j) together) ∙ class_of-first others n j in_l in
+    absurd (omega arith))
+
+pub kinds_of_letters : (t : Tree) (n : ℕ) (sets : List (ℕ → Bool)) → Finer sets (all_sets t) → length (kinds t n) ≤ length (classes sets n)
+kinds_of_letters t n sets finer = finer_classes sets (guard_sets t) n (Finer-right sets (sets_in t) (guard_sets t) finer)
 
 -- ---- one kind
 
@@ -161,5 +191,19 @@ places_size (both e f) = omega (arith, places_size e, places_size f)
 places_size (either e f) = omega (arith, places_size e, places_size f)
 places_size (many e greedy) = omega (arith, places_size e)
 
-pub few_states : (t : Tree) (n : ℕ) → state_count t n ≤ 4 * size t + 3
-few_states t n = omega (arith, mul-le (places t) (length (kinds t n)) (size t) 4 (places_size t) (few_kinds t n))
+size_grows : (t : Tree) (n : ℕ) → size t ≤ size t * suc (length (kinds t n))
+size_grows t n = omega (arith, mul-le (size t) 1 (size t) (suc (length (kinds t n))) (omega arith) (omega arith))
+
+pub size-measure : (t : Tree) (n : ℕ) → size t ≤ measure n t
+size-measure t n =
+    cond_both (has_look t) (size t * suc (length (kinds t n))) (size t) (λ m. size t ≤ m) (λ _. size_grows t n) (λ _. omega arith)
+
+pub measure-size : (t : Tree) (n : ℕ) → has_look t ≡ false → measure n t ≡ size t
+measure-size t n plain = cond-false (has_look t) (size t * suc (length (kinds t n))) (size t) plain
+
+pub few_states : (t : Tree) (n : ℕ) → state_count t n ≤ 4 * measure n t + 3
+few_states t n =
+    let k = length (kinds t n) in
+    cond_both (has_look t) (size t * suc k) (size t) (λ m. state_count t n ≤ 4 * m + 3)
+    (λ _. omega (arith, mul-le (places t) k (size t) (suc k) (places_size t) (omega arith)))
+    (λ plain. omega (arith, mul-le (places t) k (size t) 4 (places_size t) (few_kinds t n plain)))

@@ -1,12 +1,13 @@
 -- What sets distinguish: codes that they don't distinguish satisfy the same tests and guards, and so have the same moves.
-use Rattle.std.proofs.Common.{◌≡◌, ℕ, ◌+◌, ◌<◌, ◌≤◌, Bool, true, false, not, ◌&&◌, ◌||◌, List, [], ◌∷◌, ◌++◌, Option, None, Some, is_none, nat_lt, if◌then◌else◌, refl, sym, ap₂, ◌∙◌, arith}
+use Rattle.std.proofs.Common.{◌≡◌, ℕ, ◌+◌, ◌<◌, ◌≤◌, Bool, true, false, not, ◌&&◌, ◌||◌, List, [], ◌∷◌, ◌++◌, Option, None, Some, is_none, nat_lt, if◌then◌else◌, refl, sym, ap, ap₂, ◌∙◌, arith}
 use Rattle.std.proofs.Math.Bool.{beq}
 use Rattle.std.proofs.lemmas.Bool.{and_from, and_parts, cond_both}
+use Rattle.rl_ranges.specs.Codes.{has}
 use Rattle.rl_ranges.specs.Letters.{alike}
 use Rattle.rl_ranges.proofs.LetterLemmas.{alike-append, beq-true}
 use Rattle.rl_syntax.specs.declared.anchors.Guard.{Guard}
-use Rattle.rl_syntax.specs.declared.anchors.Guard.TheVariants.{Start, LineStart, LineEnd, TextEnd, Word, NotWord}
-use Rattle.rl_syntax.specs.Guards.{is_in, is_word, is_line_feed, holds, sets_named}
+use Rattle.rl_syntax.specs.declared.anchors.Guard.TheVariants.{Start, LineStart, LineEnd, TextEnd, Word, NotWord, Look}
+use Rattle.rl_syntax.specs.Guards.{is_in, is_word, is_line_feed, sees, holds, sets_named}
 use Rattle.rl_syntax.specs.Tree.{Tree, empty, one, guard, both, either, many, places, sets_in, guard_sets}
 use Rattle.rl_syntax.specs.Run.{one_more}
 use Rattle.rl_prio.specs.Items.{Item, test_at, pass, all_guarded, replaced, first, after, set_of, all_hold}
@@ -60,6 +61,11 @@ in-like s None (Some d) h = absurd h
 in-like s (Some c) None h = absurd h
 in-like s (Some c) (Some d) h = beq-true (s c) (s d) (and_parts (beq (s c) (s d)) true h).0
 
+sees-like : (negated : Bool) (s : ℕ → Bool) (o n : Option ℕ) → Like (s ∷ []) o n → sees negated s o ≡ sees negated s n
+unfolding sees
+sees-like false s o n h = in-like s o n h
+sees-like true s o n h = ap not (in-like s o n h)
+
 -- A guard holds alike for codes that the sets that it names don't distinguish.
 pub holds-like : (g : Guard) (b c n m : Option ℕ) → Like (sets_named g) b c → Like (sets_named g) n m → holds g b n ≡ holds g c m
 unfolding holds
@@ -69,6 +75,8 @@ holds-like LineEnd b c n m p q = ap₂ (λ x y. x || y) (none-like (is_line_feed
 holds-like TextEnd b c n m p q = none-like [] n m q
 holds-like (Word ascii) b c n m p q = ap₂ (λ x y. not (beq x y)) (in-like (is_word ascii) b c p) (in-like (is_word ascii) n m q)
 holds-like (NotWord ascii) b c n m p q = ap₂ beq (in-like (is_word ascii) b c p) (in-like (is_word ascii) n m q)
+holds-like (Look true negated ranges) b c n m p q = sees-like negated (has ranges) b c p
+holds-like (Look false negated ranges) b c n m p q = sees-like negated (has ranges) n m q
 
 -- The sets distinguish what the guards do.
 abbrev pub GuardsKnown : List (ℕ → Bool) → List Guard → Type 0

@@ -1,5 +1,5 @@
 -- Lemmas on plans: the attempts of a state, what is shown before it, and the targets of attempts.
-use Rattle.std.proofs.Common.{◌≡◌, ℕ, zero, suc, ◌+◌, ◌*◌, ◌^◌, ◌-◌, ◌/◌, ◌%◌, ◌<◌, ◌≤◌, Bool, true, false, ◌&&◌, nat_lt, List, [], ◌∷◌, ◌++◌, length, map, get_or, All, take, refl, sym, ap, ap₂, subst, ◌∙◌, append_assoc, length-append, inl, inr, arith, None}
+use Rattle.std.proofs.Common.{◌≡◌, ℕ, zero, suc, ◌+◌, ◌*◌, ◌^◌, ◌-◌, ◌/◌, ◌%◌, ◌<◌, ◌≤◌, Bool, true, false, ◌&&◌, nat_lt, List, [], ◌∷◌, ◌++◌, length, map, get_or, All, take, refl, sym, ap, ap₂, subst, ◌∙◌, append_assoc, length-append, inl, inr, arith}
 use Rattle.std.specs.List.{list_all, flat_map, range_with_len}
 use Rattle.std.proofs.lemmas.Bool.{cond-true, cond-false, lt-ltb, le-ltb, cases_lt}
 use Rattle.std.proofs.lemmas.List.{get_or_default, get_or_append_left, get_or-append-add, map_more, flat_map_more, take_more}
@@ -9,7 +9,7 @@ use Rattle.std.proofs.Math.Nat.{div-lt_iff_lt-mul}
 use Rattle.std.proofs.lemmas.Bool.{and_parts, ltb-true}
 use Rattle.rl_ranges.specs.declared.letters.TheConstants.{MOST_LETTERS}
 use Rattle.rl_syntax.specs.declared.limits.TheConstants.{MOST_NODES}
-use Rattle.rl_prio.specs.internal.GuardSets.{met, shown, holding}
+use Rattle.rl_prio.specs.internal.GuardSets.{met, nothing_shown, holding}
 use Rattle.rl_prio.specs.internal.Attempts.{guards_of, is_unguarded}
 use Rattle.rl_prio.specs.internal.Rows.{Rows}
 use Rattle.rl_prio.specs.internal.Plans.{plan_letters, plan_kinds, plan_place_states, plan_states, holds_at, test_goes, may_end, end_goes, target_of, move_of, moves_of, attempts_at, before_at, row_of, row_at, each_letter, rows_of_state, rows_before, IsPlaced, IsSound, AreRows}
@@ -41,18 +41,18 @@ pub attempts_at-placed : (p : Plan) (q : ℕ) (l : List Attempt) → IsSound p �
 attempts_at-placed p q l sound is =
     let P : List Attempt → Type 0 = λ x. All (IsPlaced (length p.after.items)) x in subst P (sym is) (sound.placed q)
 
-pub before_at-start : (p : Plan) (q : ℕ) → q ≡ 0 → get_or p.before.items 0 (shown None) ≡ before_at p q
+pub before_at-start : (p : Plan) (q : ℕ) → q ≡ 0 → get_or p.before.items 0 nothing_shown ≡ before_at p q
 unfolding before_at
 before_at-start p q is = ap (before_at p) (sym is)
 
-pub before_at-place : (p : Plan) (q : ℕ) → 0 < q → get_or p.before.items (1 + (q - 1) % plan_kinds p) (shown None) ≡ before_at p q
+pub before_at-place : (p : Plan) (q : ℕ) → 0 < q → get_or p.before.items (1 + (q - 1) % plan_kinds p) nothing_shown ≡ before_at p q
 unfolding before_at
 before_at-place p zero some = absurd (omega arith)
 before_at-place p (suc r) some =
     let back : suc r - 1 ≡ r = omega arith in
     let more : 1 + r % plan_kinds p ≡ suc (r % plan_kinds p) = omega arith in
     let at : 1 + (suc r - 1) % plan_kinds p ≡ suc (r % plan_kinds p) = ap (λ x. 1 + x % plan_kinds p) back ∙ more in
-    ap (λ x. get_or p.before.items x (shown None)) at
+    ap (λ x. get_or p.before.items x nothing_shown) at
 
 pub test_goes-hit : (p : Plan) (place letter : ℕ) → holds_at p place letter ≡ true → suc (place * plan_kinds p + get_or p.kinds_of.items letter 0) ≡ test_goes p place letter
 unfolding test_goes
@@ -92,13 +92,13 @@ pub before_at-read : (p : Plan) (q kinds : ℕ) (x d : Shown) → IsSound p → 
 before_at-read p q kinds x d sound some is read =
     let kept : 0 < plan_kinds p = omega (arith, sound.some_kind) in
     let here : 1 + (q - 1) % plan_kinds p < length p.before.items = omega arith in
-    read ∙ ap (λ k. get_or p.before.items (1 + (q - 1) % k) d) is ∙ get_or_default p.before.items (1 + (q - 1) % plan_kinds p) d (shown None) here
+    read ∙ ap (λ k. get_or p.before.items (1 + (q - 1) % k) d) is ∙ get_or_default p.before.items (1 + (q - 1) % plan_kinds p) d nothing_shown here
     ∙ before_at-place p q (omega arith)
 
 pub before_at-first : (p : Plan) (q : ℕ) (x d : Shown) → IsSound p → q ≡ 0 → x ≡ get_or p.before.items 0 d → x ≡ before_at p q
 before_at-first p q x d sound zero_is read =
     let here : 0 < length p.before.items = omega (arith, sound.some_kind) in
-    read ∙ get_or_default p.before.items 0 d (shown None) here ∙ before_at-start p q zero_is
+    read ∙ get_or_default p.before.items 0 d nothing_shown here ∙ before_at-start p q zero_is
 
 pub holds_at-read : (p : Plan) (place letter : ℕ) (row d : List Bool) → IsSound p → place < length p.after.items → letter < plan_letters p → row ≡ get_or p.members.items place d
     → get_or row letter false ≡ holds_at p place letter
@@ -207,8 +207,8 @@ pub guarded_more : (p : Plan) (before next d : Shown) (l : List Attempt) (held :
     → now ≡ only (old.rows ++ map (row_of p before l) (range_with_len 0 n)) → moved ≡ put (moves_of p held n l) now → new ≡ closed moved
     → new ≡ only (old.rows ++ map (row_of p before l) (range_with_len 0 (n + 1)))
 guarded_more p before next d l held old now moved new n n_in read holds so_far goes ends =
-    let same : held ≡ holding before (get_or p.next.items n (shown None)) =
-    holds ∙ ap (holding before) (read ∙ get_or_default p.next.items n d (shown None) n_in) in
+    let same : held ≡ holding before (get_or p.next.items n nothing_shown) =
+    holds ∙ ap (holding before) (read ∙ get_or_default p.next.items n d nothing_shown n_in) in
     letter_more (row_of p before l) old now moved new n so_far (goes ∙ ap (λ h. put (moves_of p h n l) now) same) ends
 
 -- The rows of all letters.
@@ -229,7 +229,7 @@ unguarded_moves p held letter (a ∷ l) bare =
 unguarded_rows : (p : Plan) (before : Shown) (l : List Attempt) (letters : List ℕ) → list_all is_unguarded l ≡ true
     → map (λ letter. map (target_of p letter) l) letters ≡ map (row_of p before l) letters
 unguarded_rows p before l letters bare =
-    ap (λ (f : ℕ → List ℕ). map f letters) (λ i letter. unguarded_moves p (holding before (get_or p.next.items letter (shown None))) letter l bare i)
+    ap (λ (f : ℕ → List ℕ). map f letters) (λ i letter. unguarded_moves p (holding before (get_or p.next.items letter nothing_shown)) letter l bare i)
 
 -- Their targets make the rows of their state.
 pub unguarded_state : (p : Plan) (q : ℕ) (l : List Attempt) (old new : Rows) → l ≡ attempts_at p q → list_all is_unguarded l ≡ true

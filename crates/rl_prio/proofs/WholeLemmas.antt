@@ -6,6 +6,7 @@ use Rattle.std.proofs.lemmas.Option.{slice_get_past}
 use Rattle.rl_ranges.specs.Letters.{classes}
 use Rattle.rl_syntax.specs.declared.re.Ending.{Ending}
 use Rattle.rl_syntax.specs.Tree.{Tree, size}
+use Rattle.rl_prio.specs.Measure.{measure}
 use Rattle.rl_prio.specs.Items.{Item, test_at, pass, all_hold}
 use Rattle.rl_prio.specs.States.{accepting, dead, end_target, ends_here, moves_on, items_of, kind_before}
 use Rattle.rl_prio.specs.Automaton.{Automaton, letters_count, accepting_state, dead_state, moves_at}
@@ -72,5 +73,5 @@ module _ (a : Automaton) (t : Tree) (ending : Ending) (sets : List (ℕ → Bool
       (λ beyond. outside (inl beyond))
       (cases_lt q a.states)
 
-  pub states-few : a.states ≤ 4 * size t + 3
+  pub states-few : a.states ≤ 4 * measure a.table.codes t + 3
   states-few = omega (arith, stands.same_states, few_states t a.table.codes)

@@ -1,7 +1,7 @@
 -- Items: what a backtracking matcher tries at a point of a tree, in order. An item has the guards on the way to it, followed
 -- by the test of a place or by the end of the tree. The places of a tree are its sets, numbered from left to right. Items are
 -- the ordered moves of the automata of Weideman, van der Merwe, Berglund and Watson (2016), defined by recursion on the tree.
--- Guards are anchors and word boundaries.
+-- Guards are anchors, word boundaries and lookarounds of one character.
 use Rattle.std.specs.Prelude.{ℕ, zero, suc, ◌+◌, Bool, true, false, ◌&&◌, nat_lt, List, [], ◌∷◌, ◌++◌, length, max, Option, if◌then◌else◌}
 use Rattle.rl_syntax.specs.declared.anchors.Guard.{Guard}
 use Rattle.rl_syntax.specs.Guards.{holds}

@@ -1,6 +1,6 @@
 -- Letters and kinds of a tree. Two codes belong to the same letter if each set of the tree, and each set that its guards use,
 -- holds both of them or neither. They are of the same kind if each set that the guards use holds both of them or neither. Both
--- are numbered from 0, in the order of their least codes. Guards are anchors and word boundaries.
+-- are numbered from 0, in the order of their least codes. Guards are anchors, word boundaries and lookarounds of one character.
 use Rattle.std.specs.Prelude.{ℕ, Bool, List, ◌++◌}
 use Rattle.rl_ranges.specs.Letters.{classes, class_of}
 use Rattle.rl_syntax.specs.Tree.{Tree, sets_in, guard_sets}

@@ -1,5 +1,6 @@
 pub mod Items
 pub mod Letters
+pub mod Measure
 pub mod States
 pub mod Automaton
 pub mod Walk

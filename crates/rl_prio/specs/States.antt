@@ -4,8 +4,9 @@
 -- to the state of its place and the letter's kind if the set of the place holds the letter, and to the dead state otherwise.
 -- An end moves to the accepting state if the match may end there, and to the dead state otherwise. A letter is represented by
 -- its least code, and the end letter by no code. In all definitions, `n` is the number of codes. An item is what a matcher
--- tries next: the test of a place, or the end of the tree, after a list of guards (anchors and word boundaries). The places of
--- a tree are its sets, numbered from left to right. Codes of one kind look alike to all guards of the tree.
+-- tries next: the test of a place, or the end of the tree, after a list of guards (anchors, word boundaries and lookarounds of
+-- one character). The places of a tree are its sets, numbered from left to right. Codes of one kind look alike to all guards of
+-- the tree.
 use Rattle.std.specs.Prelude.{ℕ, zero, suc, ◌+◌, ◌*◌, ◌/◌, ◌%◌, Bool, true, false, nat_lt, List, [], ◌∷◌, ◌++◌, length, Option, None, Some, slice_get, if◌then◌else◌}
 use Rattle.rl_ranges.specs.Letters.{classes}
 use Rattle.rl_syntax.specs.declared.re.Ending.{Ending}

@@ -1,6 +1,6 @@
-//! Building the ordered automaton of a tree. Guards are anchors and word boundaries. Codes belong to the same letter if none
-//! of the sets in question distinguishes them, and to the same kind if none of the sets that the guards use does. An item is
-//! what a matcher tries next: the test of one of the tree's sets, or the end of the tree.
+//! Building the ordered automaton of a tree. Guards are anchors, word boundaries and lookarounds of one character. Codes belong
+//! to the same letter if none of the sets in question distinguishes them, and to the same kind if none of the sets that the
+//! guards use does. An item is what a matcher tries next: the test of one of the tree's sets, or the end of the tree.
 
 ghost use Rattle.std.specs.Prelude.{◌≡◌, ℕ, ◌<◌, ◌≤◌, ◌++◌, [], true, All, IfOk, IfErr, OnOk, length, map};
 ghost use Rattle.rl_ranges.specs.Codes.{has, IsInside};
@@ -21,7 +21,8 @@ mod sets;
 mod shared;
 
 use crate::build::attempts::ListError;
-use crate::build::sets::{add_guard_sets, add_sets};
+pub use crate::build::sets::add_guard_sets;
+use crate::build::sets::add_sets;
 use crate::build::shared::shared;
 use crate::error::PrioError;
 use crate::prio::Prio;
@@ -74,14 +75,18 @@ pub fn add_letter_sets(alloc: Global, tree: &Re, sets: &mut Vec<CodeSet>) -> Res
     Ok(())
 }
 
-/// Returns the kinds of a tree, that is, the letters of the sets that its guards use. There are at most four.
+/// Returns the kinds of a tree, that is, the letters of the sets that its guards use. There must be at most
+/// [`MOST_LETTERS`](rl_ranges::MOST_LETTERS). There are never more than the tree has letters, and at most four if it has no
+/// lookaround.
 ///
 /// # Errors
 /// [`OutOfMemory`] if there is not enough memory for them.
 fn kinds(alloc: Global, tree: &Re, universe: Universe) -> Result<Letters, OutOfMemory>
-    requires { IsOver universe (tree_of tree.now) }
-    ensures { IfOk result
+    requires inside { IsOver universe (tree_of tree.now) }
+    requires few { length (classes (guard_sets (tree_of tree.now)) (code_count universe)) ≤ MOST_LETTERS }
+    ensures ok { IfOk result
         (λ table. IsLetters table (guard_sets (tree_of tree.now)) (code_count universe)) }
+    ensures few { IfOk result (λ table. length table.samples ≤ MOST_LETTERS) }
 {
     let mut sets = Vec::new(alloc);
     add_guard_sets(alloc, tree, &mut sets)?;

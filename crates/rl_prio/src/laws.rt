@@ -3,18 +3,19 @@
 //! define. The run of a tree on a text is the list of the steps that a backtracking matcher takes if it never stops early, and
 //! the walk of an automaton is the list of its tries of moves. A step is a hit if a match ends with it. The cost is one more
 //! than the number of steps up to and including the first hit, or than the number of all steps if there is no hit. A place of
-//! a tree is one of its sets, and its guards are its anchors and word boundaries. Letters are of the same kind if the guards
-//! don't distinguish between them.
+//! a tree is one of its sets, and its guards are its anchors, its word boundaries and its lookarounds of one character. Letters
+//! are of the same kind if the guards don't distinguish between them.
 
-ghost use Rattle.std.specs.Prelude.{◌≡◌, ◌↔◌, ◌⊎◌, ℕ, ◌+◌, ◌*◌, ◌^◌, ◌<◌, ◌≤◌, Bool, true, List, [], length, All, IsTrue};
-ghost use Rattle.rl_ranges.specs.Letters.{alike};
+ghost use Rattle.std.specs.Prelude.{◌≡◌, ◌↔◌, ◌⊎◌, ℕ, ◌+◌, ◌*◌, ◌^◌, ◌<◌, ◌≤◌, Bool, true, false, List, [], length, All, IsTrue};
+ghost use Rattle.rl_ranges.specs.Letters.{alike, classes};
 ghost use Rattle.rl_syntax.specs.declared.re.Ending.{Ending};
 ghost use Rattle.rl_syntax.specs.declared.re.Ending.TheVariants.{AtEnd, Anywhere};
-ghost use Rattle.rl_syntax.specs.Tree.{Tree, size, guards_in};
+ghost use Rattle.rl_syntax.specs.Tree.{Tree, size, guards_in, has_look};
 ghost use Rattle.rl_syntax.specs.Language.{Spans};
 ghost use Rattle.rl_syntax.specs.Cost.{all_tests, cost, matched};
 ghost use Rattle.rl_prio.specs.Items.{first, after, longest};
 ghost use Rattle.rl_prio.specs.Letters.{all_sets, kinds};
+ghost use Rattle.rl_prio.specs.Measure.{measure};
 ghost use Rattle.rl_prio.specs.States.{state_count};
 ghost use Rattle.rl_prio.specs.Automaton.{Automaton, letters_count, accepting_state, dead_state, moves_at};
 ghost use Rattle.rl_prio.specs.Walk.{walk, word_at, walk_cost, walk_matched};
@@ -69,12 +70,18 @@ pub fn item_lists_are_short()
         → (q letter : ℕ) → length (moves_at a q letter) ≤ 2 ^ (size t * size t) }
 {}
 
-/// States that there are at most four kinds of letters, and only one if the tree has no guards and there is at least one code.
-/// So a tree of size `s` has at most `4*s + 3` states. Guards use at most three sets, one of which is a subset of another.
+/// States bounds on the numbers of kinds and states. There are at most four kinds if the tree has no lookaround, and only one
+/// if it has no guards and there is at least one code. There are never more kinds than letters. A tree of measure `m` has at
+/// most `4*m + 3` states. Without a lookaround the measure is the size of the tree. The guards use at most three sets then, one
+/// of which is a subset of another.
 pub fn states_are_few()
-    ensures kinds { (t : Tree) (n : ℕ) → length (kinds t n) ≤ 4 }
+    ensures kinds { (t : Tree) (n : ℕ) → has_look t ≡ false → length (kinds t n) ≤ 4 }
+    ensures kinds_of_letters { (t : Tree) (n : ℕ) (sets : List (ℕ → Bool))
+        → ((c d : ℕ) → alike sets c d ≡ true → alike (all_sets t) c d ≡ true) → length (kinds t n) ≤ length (classes sets n) }
     ensures one_kind { (t : Tree) (n : ℕ) → guards_in t ≡ [] → 0 < n → length (kinds t n) ≡ 1 }
-    ensures counted { (t : Tree) (n : ℕ) → state_count t n ≤ 4 * size t + 3 }
+    ensures size { (t : Tree) (n : ℕ) → size t ≤ measure n t }
+    ensures same_size { (t : Tree) (n : ℕ) → has_look t ≡ false → measure n t ≡ size t }
+    ensures counted { (t : Tree) (n : ℕ) → state_count t n ≤ 4 * measure n t + 3 }
     ensures states { (a : Automaton) (t : Tree) (ending : Ending) (sets : List (ℕ → Bool)) → StandsOver a t ending sets
-        → a.states ≤ 4 * size t + 3 }
+        → a.states ≤ 4 * measure a.table.codes t + 3 }
 {}

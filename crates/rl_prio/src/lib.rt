@@ -3,9 +3,9 @@
 //!
 //! [`Prio::build`] builds it from a lowered tree. As in Glushkov's construction, there is a state for each place of the tree
 //! that reads a character, and there are no empty moves. More precisely, a place has one state for each kind of letter that
-//! anchors and word boundaries distinguish. [`Prio::moves`] returns the targets of a state on a letter in order, and keeps
-//! repeated targets, because a matcher tries them again. [`Prio::build_over`] and [`Prio::build_beside`] build automata over
-//! given letters, so that two automata can read the same word side by side.
+//! anchors, word boundaries and lookarounds distinguish. [`Prio::moves`] returns the targets of a state on a letter in order,
+//! and keeps repeated targets, because a matcher tries them again. [`Prio::build_over`] and [`Prio::build_beside`] build
+//! automata over given letters, so that two automata can read the same word side by side.
 //!
 //! # What is proved
 //!
@@ -32,6 +32,6 @@ pub mod laws;
 mod prio;
 mod rows;
 
-pub use build::add_letter_sets;
+pub use build::{add_guard_sets, add_letter_sets};
 pub use error::PrioError;
 pub use prio::Prio;

@@ -1,15 +1,17 @@
 -- The laws for the trees of a pattern in the modes `match` and `search`.
-use Rattle.std.proofs.Common.{◌≡◌, ℕ, suc, ◌+◌, ◌*◌, ◌^◌, ◌<◌, ◌≤◌, max, Bool, true, false, ◌||◌, List, [], ◌∷◌, length, refl, ◌∙◌, arith, le_trans, le_refl, mul-le-mul, mul-pos, mul_assoc}
+use Rattle.std.proofs.Common.{◌≡◌, ℕ, suc, ◌+◌, ◌*◌, ◌^◌, ◌<◌, ◌≤◌, max, Bool, true, false, ◌||◌, List, [], ◌∷◌, length, refl, ◌∙◌, arith, le_trans, le_refl, mul-le-mul, mul-pos, mul_assoc, if◌then◌else◌}
 use Rattle.std.proofs.Math.Nat.{one-le-pow, pow-le-pow_right}
 use Rattle.rl_ranges.specs.declared.universe.Universe.{Universe}
-use Rattle.rl_ranges.specs.Text.{IsText}
+use Rattle.rl_ranges.specs.Text.{IsText, code_count}
 use Rattle.rl_syntax.specs.declared.anchors.Trail.{Trail}
 use Rattle.rl_syntax.specs.declared.anchors.Trail.TheVariants.{None as NoTrail, Dollar, End}
 use Rattle.rl_syntax.specs.declared.re.Ending.{Ending}
 use Rattle.rl_syntax.specs.declared.re.Mode.TheVariants.{Match, Search}
 use Rattle.rl_syntax.specs.declared.pattern.Pattern.{Pattern}
 use Rattle.rl_syntax.specs.declared.verdict.Family.{Family}
-use Rattle.rl_syntax.specs.Tree.{Tree, size}
+use Rattle.rl_syntax.specs.Tree.{Tree, size, has_look}
+use Rattle.rl_prio.specs.Letters.{kinds}
+use Rattle.rl_prio.specs.Measure.{measure}
 use Rattle.rl_syntax.specs.Cost.{cost, matched}
 use Rattle.rl_syntax.specs.Family.{family_text}
 use Rattle.rl_syntax.specs.Modes.{trailed, sought, wrapped, ending_at}
@@ -99,9 +101,17 @@ exponential p m n f h = (h.family, λ k. le_trans (h.lower k) (least (universe_o
 pub degree : (p : Pattern) (m n d : ℕ) (f : Family) → 1 ≤ d → HasDegree (question_in Match p m) d f → IsAtLeast (question_in Search p n) (AtLeast.Degree d f)
 degree p m n d f some h = (some, h.family, λ k. le_trans (h.lower k) (least (universe_of p) (is_anchored p) (trail_of p) _ (family_text f k)))
 
-sought-size : (u : Universe) (leading : Bool) (t : Tree) → size t ≤ size (sought u leading t)
-sought-size u true t = le_refl (size t)
-sought-size u false t = omega arith
+-- The measure of a tree over the codes of the universe.
+abbrev measured : Universe → Tree → ℕ
+measured u t = measure (code_count u) t
+
+measure-more : (look : Bool) (k s r : ℕ) → s ≤ r → (if look then s * suc k else s) ≤ (if look then r * suc k else r)
+measure-more true k s r le = mul-le-mul le (le_refl (suc k))
+measure-more false k s r le = le
+
+sought-size : (u : Universe) (leading : Bool) (t : Tree) → measured u t ≤ measured u (sought u leading t)
+sought-size u true t = le_refl (measured u t)
+sought-size u false t = measure-more (has_look t) (length (kinds t (code_count u))) (size t) (size (sought u false t)) (omega arith)
 
 -- Half a constant, and a power that is not greater.
 within-half : (c e p q x : ℕ) → 2 * c ≤ e → p ≤ q → x ≤ c * p → 2 * x ≤ e * q
@@ -112,41 +122,41 @@ within-half c e p q x half wider le =
 
 -- One more step is within the constant of a greater degree.
 sought-bounded : (u : Universe) (leading : Bool) (t : Tree) (ending : Ending) (d : ℕ) → looks_behind t ≡ false
-    → ((v : List ℕ) → IsText u v → cost t ending v ≤ bound_c (size t) d * (length v + 1) ^ d)
-    → (w : List ℕ) → IsText u w → cost (sought u leading t) ending w ≤ bound_c (size (sought u leading t)) (suc d) * (length w + 1) ^ suc d
+    → ((v : List ℕ) → IsText u v → cost t ending v ≤ bound_c (measured u t) d * (length v + 1) ^ d)
+    → (w : List ℕ) → IsText u w → cost (sought u leading t) ending w ≤ bound_c (measured u (sought u leading t)) (suc d) * (length w + 1) ^ suc d
 sought-bounded u leading t ending d h most w text =
-    let c = bound_c (size t) d in
+    let c = bound_c (measured u t) d in
     let p = (length w + 1) ^ suc d in
-    let some : 0 < c * p = mul-pos (c-some (size t) d) (one-le-pow (suc d) (length w + 1) (omega arith)) in
-    let half = within-half c (bound_c (size (sought u leading t)) (suc d)) p p (c * p) (c-twice (size t) (size (sought u leading t)) d (suc d) (sought-size u leading t) (omega arith)) (le_refl p) (le_refl (c * p)) in
+    let some : 0 < c * p = mul-pos (c-some (measured u t) d) (one-le-pow (suc d) (length w + 1) (omega arith)) in
+    let half = within-half c (bound_c (measured u (sought u leading t)) (suc d)) p p (c * p) (c-twice (measured u t) (measured u (sought u leading t)) d (suc d) (sought-size u leading t) (omega arith)) (le_refl p) (le_refl (c * p)) in
     omega (arith, some, half, sought-power u leading t ending c d h most w text)
 
-behind-size : (u : Universe) (t : Tree) → size (after_one u t) ≤ size (sought u false t)
-behind-size u t = omega arith
+behind-size : (u : Universe) (t : Tree) → measured u (after_one u t) ≤ measured u (sought u false t)
+behind-size u t = measure-more (has_look t) (length (kinds t (code_count u))) (size (after_one u t)) (size (sought u false t)) (omega arith)
 
 behind-bounded : (u : Universe) (leading : Bool) (t : Tree) (ending : Ending) (d e : ℕ)
-    → ((v : List ℕ) → IsText u v → cost t ending v ≤ bound_c (size t) d * (length v + 1) ^ d)
-    → ((v : List ℕ) → IsText u v → cost (after_one u t) ending v ≤ bound_c (size (after_one u t)) e * (length v + 1) ^ e)
-    → (w : List ℕ) → IsText u w → cost (sought u leading t) ending w ≤ bound_c (size (sought u leading t)) (suc (max d e)) * (length w + 1) ^ suc (max d e)
+    → ((v : List ℕ) → IsText u v → cost t ending v ≤ bound_c (measured u t) d * (length v + 1) ^ d)
+    → ((v : List ℕ) → IsText u v → cost (after_one u t) ending v ≤ bound_c (measured u (after_one u t)) e * (length v + 1) ^ e)
+    → (w : List ℕ) → IsText u w → cost (sought u leading t) ending w ≤ bound_c (measured u (sought u leading t)) (suc (max d e)) * (length w + 1) ^ suc (max d e)
 behind-bounded u true t ending d e most most_behind w text =
     let n = length w + 1 in
     let positive : 0 < n = omega arith in
     let exponent : d ≤ suc (max d e) = omega arith in
-    let half = within-half (bound_c (size t) d) (bound_c (size t) (suc (max d e))) (n ^ d) (n ^ suc (max d e)) (cost t ending w)
-    (c-twice (size t) (size t) d (suc (max d e)) (le_refl (size t)) (omega arith)) (pow-le-pow_right positive exponent) (most w text) in
+    let half = within-half (bound_c (measured u t) d) (bound_c (measured u t) (suc (max d e))) (n ^ d) (n ^ suc (max d e)) (cost t ending w)
+    (c-twice (measured u t) (measured u t) d (suc (max d e)) (le_refl (measured u t)) (omega arith)) (pow-le-pow_right positive exponent) (most w text) in
     omega (arith, half)
 behind-bounded u false t ending d e most most_behind w text =
     let n = length w + 1 in
     let m = suc (max d e) in
-    let s = size (sought u false t) in
+    let s = measured u (sought u false t) in
     let positive : 0 < n = omega arith in
     let exponent : d ≤ m = omega arith in
     let exponent_behind : suc e ≤ m = omega arith in
-    let one = within-half (bound_c (size t) d) (bound_c s m) (n ^ d) (n ^ m) (cost t ending w)
-    (c-twice (size t) s d m (sought-size u false t) (omega arith)) (pow-le-pow_right positive exponent) (most w text) in
-    let other = within-half (bound_c (size (after_one u t)) e) (bound_c s m) (n ^ suc e) (n ^ m) (cost_of_all (after_one u t) ending w)
-    (c-twice (size (after_one u t)) s e m (behind-size u t) (omega arith)) (pow-le-pow_right positive exponent_behind)
-    (all-power u (after_one u t) ending (bound_c (size (after_one u t)) e) e most_behind w text) in
+    let one = within-half (bound_c (measured u t) d) (bound_c s m) (n ^ d) (n ^ m) (cost t ending w)
+    (c-twice (measured u t) s d m (sought-size u false t) (omega arith)) (pow-le-pow_right positive exponent) (most w text) in
+    let other = within-half (bound_c (measured u (after_one u t)) e) (bound_c s m) (n ^ suc e) (n ^ m) (cost_of_all (after_one u t) ending w)
+    (c-twice (measured u (after_one u t)) s e m (behind-size u t) (omega arith)) (pow-le-pow_right positive exponent_behind)
+    (all-power u (after_one u t) ending (bound_c (measured u (after_one u t)) e) e most_behind w text) in
     omega (arith, one, other, search-after u ending t w text)
 
 pub bounded : (p : Pattern) (m n d : ℕ) → looks_behind (pattern_tree p Match) ≡ false → IsBounded (question_in Match p m) d → IsAtMost (question_in Search p n) (suc d)

@@ -5,13 +5,12 @@ use Rattle.rl_syntax.specs.declared.verdict.Family.{Family}
 use Rattle.rl_syntax.specs.declared.verdict.Verdict.{Verdict}
 use Rattle.rl_syntax.specs.declared.verdict.Verdict.TheVariants.{Degree, Expo, Undecided}
 use Rattle.rl_syntax.specs.declared.verdict.Limit.TheVariants.{Pairs}
-use Rattle.rl_syntax.specs.Tree.{size}
 use Rattle.rl_graph.specs.Bounds.{bound_k}
 use Rattle.rl_degree.proofs.SplitLaws.{chain_short}
 use Rattle.rl_prio.specs.Letters.{all_sets}
-use Rattle.rl_pairs.specs.RightVerdict.{Question, RightVerdict}
+use Rattle.rl_pairs.specs.RightVerdict.{Question, RightVerdict, measure_of}
 use Rattle.rl_pairs.proofs.NumberLaws.{more-than-limit}
-use Rattle.rl_pairs.proofs.VerdictLaws.{graph-within}
+use Rattle.rl_pairs.proofs.VerdictLaws.{machine-within}
 use Rattle.rl_growth.specs.Degrees.{IsClassOfPairs, HasClass}
 use Rattle.rl_reach.specs.internal.Degrees.{IsDegreeWithin}
 
@@ -26,7 +25,7 @@ pub degree-within : (q : Question) (verdict : Verdict) → RightVerdict q verdic
 degree-within q (Degree zero f) right c = omega arith
 degree-within q (Degree (suc d) f) right c =
     let rank = c.class.2 in
-    let short = chain_short c.moves c.count (bound_k (size q.tree)) (graph-within c.automaton q.tree q.ending (all_sets q.tree) c.moves c.pairs c.count c.machine.stands c.graph) c.class.0 0 rank.chain c.graph.some rank.goes in
+    let short = chain_short c.moves c.count (bound_k (measure_of q)) (machine-within q c.automaton c.moves c.pairs c.count c.machine c.graph) c.class.0 0 rank.chain c.graph.some rank.goes in
     omega (arith, short, rank.long, few-states q (suc d) f right c)
 degree-within q (Expo f) right c = tt
 degree-within q (Undecided limit) right c = tt

@@ -22,11 +22,11 @@ use Rattle.rl_spans.proofs.ShownLaws.{spread_are, taken_are}
 use Rattle.rl_spans.proofs.BelowLaws.{spread-below}
 use Rattle.rl_spans.proofs.TestLaws.{tests-count, tests-are}
 
-pub spread-at : (m : Marked) (rows : List (List MarkItem)) → HasItems m rows → (before next : Shown) (b n : Option ℕ) → IsShown b before → IsShown n next
+pub spread-at : (m : Marked) (rows : List (List MarkItem)) → HasItems m rows → (before next : Shown) → IsShown before → IsShown next
     → (i states : ℕ) → states ≡ length rows → (threads : List Thread) → All (λ (t : Thread). t.state < states) threads
-    → shown_spread rows before next i threads ≡ spread m b n i threads
-spread-at m rows h before next b n p q i states same threads all =
-    spread_are m rows h.items before next b n p q i threads (subst (λ k. All (λ (t : Thread). t.state < k) threads) same all)
+    → shown_spread rows before next i threads ≡ spread m before.code next.code i threads
+spread-at m rows h before next p q i states same threads all =
+    spread_are m rows h.items before next p q i threads (subst (λ k. All (λ (t : Thread). t.state < k) threads) same all)
 
 pub taken-at : (m : Marked) (b n : Option ℕ) (i code : ℕ) (accepts : Bool) (threads : List Thread)
     → taken_by (tests_at m code) accepts (spread m b n i threads) ≡ taken m accepts code (spread m b n i threads)

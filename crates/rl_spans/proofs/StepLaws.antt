@@ -21,12 +21,12 @@ use Rattle.rl_spans.proofs.BelowLaws.{spread-below}
 use Rattle.rl_spans.proofs.TestLaws.{tests-count, tests-are}
 
 -- Threads in a side's states, which are other threads by another name of the list.
-pub spread-side : (m : Marked) (rows : List (List MarkItem)) → HasItems m rows → (before next : Shown) (b n : Option ℕ) → IsShown b before → IsShown n next
+pub spread-side : (m : Marked) (rows : List (List MarkItem)) → HasItems m rows → (before next : Shown) → IsShown before → IsShown next
     → (states : ℕ) → states ≡ length rows → (threads others : List Thread) → All (λ (t : Thread). t.state < states) threads → threads ≡ others
-    → shown_spread rows before next 0 threads ≡ spread m b n 0 others
-spread-side m rows h before next b n p q states same threads others all e =
-    spread_are m rows h.items before next b n p q 0 threads (subst (λ k. All (λ (t : Thread). t.state < k) threads) same all)
-    ∙ ap (spread m b n 0) e
+    → shown_spread rows before next 0 threads ≡ spread m before.code next.code 0 others
+spread-side m rows h before next p q states same threads others all e =
+    spread_are m rows h.items before next p q 0 threads (subst (λ k. All (λ (t : Thread). t.state < k) threads) same all)
+    ∙ ap (spread m before.code next.code 0) e
 
 pub taken-side : (m : Marked) (b n : Option ℕ) (code : ℕ) (accepts : Bool) (threads : List Thread)
     → taken_by (tests_at m code) accepts (spread m b n 0 threads) ≡ taken m accepts code (spread m b n 0 threads)

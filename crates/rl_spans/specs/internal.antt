@@ -3,6 +3,7 @@ pub mod Codes
 pub mod Machines
 pub mod Hits
 pub mod HeldSights
+pub mod Looks
 pub mod Names
 pub mod Puts
 pub mod Shown

@@ -12,7 +12,7 @@ ghost use Rattle.rl_spans.specs.internal.Codes.{AreEnough};
 ghost use Rattle.rl_spans.specs.internal.Machines.{IsMachine};
 ghost use Rattle.rl_spans.specs.internal.Sides.{matcher_of};
 
-use crate::codes::codes_of;
+use crate::codes::{codes_of, looks_of};
 use crate::error::SpansError;
 use crate::machine::Machine;
 use crate::shown::Words;
@@ -74,6 +74,7 @@ pub(crate) fn machine_of(
         return Err(SpansError::Size);
     }
     let codes = codes_of(alloc, &first, &second, a.universe)?;
+    let looks = looks_of(alloc, &first, &second)?;
     let words = Words::new(alloc)?;
     let first = Side::new(alloc, first, ending_of(how, a.trailing), codes.as_slice())?;
     let second = Side::new(alloc, second, ending_of(how, b.trailing), codes.as_slice())?;
@@ -82,5 +83,6 @@ pub(crate) fn machine_of(
         second,
         codes,
         words,
+        looks,
     })
 }

@@ -116,13 +116,13 @@ pub(crate) fn after_acts(
 {
     let mut known = copy_of(alloc, caps)?;
     for act in acts {
-        match *act {
+        match act {
             Act::Check(_) => {}
             Act::OpenGroup => {
                 known = after_open(alloc, place, &known)?;
             }
             Act::CloseGroup(number) => {
-                known = after_close(alloc, number, place, &known)?;
+                known = after_close(alloc, *number, place, &known)?;
             }
         }
     }

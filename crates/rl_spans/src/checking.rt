@@ -17,26 +17,27 @@ ghost use Rattle.rl_spans.specs.internal.Machines.{IsMachine, IsMove, KeepsCodes
 use crate::agreeing::agree;
 use crate::asking::{machine_of, origin_of};
 use crate::error::SpansError;
-use crate::machine::{Machine, is_move, seen, steps_on, stops_before_last};
+use crate::machine::{Machine, is_move, steps_on, stops_before_last};
 use crate::relation::{Row, SpanRelation};
+use crate::shown::Shown;
 use crate::side::tests_of;
-use crate::stepping::{Seen, StepError, stop_at_end};
+use crate::stepping::{StepError, stop_at_end};
 use rl_lists::{Items, OutOfMemory};
 use rl_marks::threads::{Caps, Origin, Thread, ThreadPair};
 use rl_marks::{How, MarkedPattern, MatchEnding};
 use std::alloc::Global;
 
 /// Returns whether both sides of a pair have found the same if the text ends here. `accepts` says whether a match may end
-/// here, and `before` is the code before with what guards see of it.
+/// here, and `before` is what guards see of the code before.
 pub(crate) fn keeps_end(
     alloc: Global,
     machine: &Machine,
     accepts: bool,
-    before: Seen,
+    before: Shown,
     pair: &ThreadPair,
 ) -> Result<bool, StepError>
     requires machine { IsMachine machine.now }
-    requires shown { IsShown before.code before.shown }
+    requires shown { IsShown before }
     requires before { before.code ≡ pair.now.before }
     ensures { IfOk result (λ ok. IsTrue ok → AgreesBefore (matcher_of machine.now.first) (matcher_of machine.now.second) (stops_at accepts None) pair.now None) }
 {
@@ -69,11 +70,11 @@ pub(crate) fn keeps_last(
     alloc: Global,
     machine: &Machine,
     accepts: bool,
-    before: Seen,
+    before: Shown,
     pair: &ThreadPair,
 ) -> Result<bool, StepError>
     requires machine { IsMachine machine.now }
-    requires shown { IsShown before.code before.shown }
+    requires shown { IsShown before }
     requires before { before.code ≡ pair.now.before }
     ensures { IfOk result (λ ok. IsTrue ok → (agree : Bool) × KeepsLast (matcher_of machine.now.first) (matcher_of machine.now.second) accepts pair.now agree) }
 {
@@ -85,7 +86,7 @@ pub(crate) fn keeps_last(
     );
     let tests = (first.as_slice(), second.as_slice());
     let steps = steps_on(alloc, machine, tests, stops, before, 10, pair)?;
-    let line_feed = seen(&machine.words, Some(10));
+    let line_feed = machine.words.shown(Some(10));
     let behind = ThreadPair {
         left: steps.left,
         right: steps.right,
@@ -110,12 +111,12 @@ fn are_moves(
     machine: &Machine,
     pairs: &[ThreadPair],
     accepts: bool,
-    before: Seen,
+    before: Shown,
     pair: &ThreadPair,
     row: &Row,
 ) -> Result<bool, StepError>
     requires machine { IsMachine machine.now }
-    requires shown { IsShown before.code before.shown }
+    requires shown { IsShown before }
     requires before { before.code ≡ pair.now.before }
     ensures { IfOk result (λ ok. IsTrue ok → (k : ℕ) → k < length machine.now.codes
         → IsMove (matcher_of machine.now.first) (matcher_of machine.now.second) pairs.now accepts pair.now (slice_index_or machine.now.codes k 0)) }
@@ -156,7 +157,7 @@ fn keeps(
     ensures { IfOk result (λ ok. IsTrue ok
         → KeepsCodes (matcher_of machine.now.first) (matcher_of machine.now.second) pairs.now machine.now.codes accepts pair.now) }
 {
-    let before = seen(&machine.words, pair.before);
+    let before = machine.words.shown(pair.before);
     if !keeps_end(alloc, machine, accepts, before, pair)? {
         return Ok(false);
     }

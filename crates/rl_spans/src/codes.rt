@@ -1,7 +1,7 @@
-//! One code for each letter of two trees. Two codes are one letter if each set of either tree, and each set that a guard of
-//! either names, holds both or neither of them.
+//! One code for each letter of two trees, and the sets of their lookarounds. Two codes are one letter if each set of either
+//! tree, and each set that a guard of either names, holds both or neither of them.
 
-ghost use Rattle.std.specs.Prelude.{◌≡◌, ◌++◌, ◌<◌, ℕ, All, map, true, IfErr, IfOk, length, slice_index_or};
+ghost use Rattle.std.specs.Prelude.{◌≡◌, ◌++◌, ◌<◌, ℕ, All, map, true, IfErr, IfOk, OnOk, length, slice_index_or};
 ghost use Rattle.rl_ranges.specs.Codes.{has, IsInside};
 ghost use Rattle.rl_ranges.specs.Letters.{alike, classes, IsLetters};
 ghost use Rattle.rl_ranges.specs.declared.letters.TheConstants.{MOST_LETTERS};
@@ -11,13 +11,14 @@ ghost use Rattle.rl_syntax.specs.Tree.{tree_of, IsOver};
 ghost use Rattle.rl_prio.specs.Letters.{all_sets};
 ghost use Rattle.rl_marks.specs.Marked.{marked_of, plain};
 ghost use Rattle.rl_spans.specs.internal.Codes.{AreEnough};
+ghost use Rattle.rl_spans.specs.internal.Looks.{look_sets};
 
 use crate::plain::plain_of;
 use rl_lists::{Items, OutOfMemory};
 use rl_marks::MarkTree;
 use rl_prio::add_letter_sets;
 use rl_ranges::{CodeSet, Letters, LettersError};
-use rl_syntax::Universe;
+use rl_syntax::{Guard, Universe};
 use std::alloc::Global;
 
 /// Returns the sets that tell the codes of two trees apart: those of the trees, and those that their guards name.
@@ -67,4 +68,38 @@ pub(crate) fn codes_of(
     let letters = Letters::of(alloc, &sets, universe)?;
     let codes = samples_of(alloc, &letters)?;
     Ok(codes)
+}
+
+/// Appends the sets of a tree's lookarounds, from left to right.
+fn add_looks(tree: &MarkTree, looks: &mut Items<CodeSet>) -> Result<(), OutOfMemory>
+    ensures { OnOk result (map has looks.new ≡ map has looks.old ++ look_sets (plain (marked_of tree.now))) }
+{
+    match tree {
+        MarkTree::Guard(Guard::Look { set, .. }) => looks.push(set.copy()?),
+        MarkTree::Empty | MarkTree::One(_) | MarkTree::Guard(_) => Ok(()),
+        MarkTree::Both(first, second)
+        | MarkTree::Either(first, second)
+        | MarkTree::Further(first, second) => {
+            add_looks(first, looks)?;
+            add_looks(second, looks)
+        }
+        MarkTree::Many(body, _) | MarkTree::Mark(_, body) => add_looks(body, looks),
+    }
+}
+
+/// Returns the sets of the lookarounds of two trees.
+///
+/// # Errors
+/// [`OutOfMemory`] if there was no memory for the list.
+pub(crate) fn looks_of(
+    alloc: Global,
+    first: &MarkTree,
+    second: &MarkTree,
+) -> Result<Items<CodeSet>, OutOfMemory>
+    ensures { IfOk result (λ looks. map has looks ≡ look_sets (plain (marked_of first.now)) ++ look_sets (plain (marked_of second.now))) }
+{
+    let mut looks = Items::new(alloc);
+    add_looks(first, &mut looks)?;
+    add_looks(second, &mut looks)?;
+    Ok(looks)
 }

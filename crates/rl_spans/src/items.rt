@@ -52,14 +52,25 @@ pub(crate) fn places_of(tree: &MarkTree) -> u32
     }
 }
 
+/// Appends copies of acts.
+fn add_acts(list: &mut Items<Act>, acts: &[Act]) -> Result<(), OutOfMemory>
+    ensures { OnOk result (list.new ≡ list.old ++ acts.now) }
+{
+    for act in acts {
+        let copy = act.copy()?;
+        list.push(copy)?;
+    }
+    Ok(())
+}
+
 /// Returns the acts of the first list and then those of the second.
 fn acts_of_both(alloc: Global, acts: &[Act], others: &[Act]) -> Result<Items<Act>, OutOfMemory>
     ensures { IfOk result (λ l. l ≡ acts.now ++ others.now) }
 {
-    let mut list = Items::from_slice(alloc, acts)?;
-    for act in others {
-        list.push(*act)?;
-    }
+    let room = Vec::with_capacity(alloc, acts.len() + others.len())?;
+    let mut list = Items::from_vec(room);
+    add_acts(&mut list, acts)?;
+    add_acts(&mut list, others)?;
     Ok(list)
 }
 
@@ -132,7 +143,7 @@ fn replaced_by(
     for item in items {
         match item {
             MarkItem::Test(acts, place) => {
-                let own = Items::from_slice(alloc, acts.as_slice())?;
+                let own = acts_of_both(alloc, acts.as_slice(), &[])?;
                 put(&mut list, MarkItem::Test(own, *place))?;
             }
             MarkItem::Pass(acts) => add_prefixed(alloc, &mut list, acts.as_slice(), others)?,
@@ -154,7 +165,8 @@ fn single(alloc: Global, item: MarkItem) -> Result<Items<MarkItem>, OutOfMemory>
 fn end_behind(alloc: Global, act: Act) -> Result<Items<MarkItem>, OutOfMemory>
     ensures { IfOk result (λ l. l ≡ MarkItem.Pass (act ∷ []) ∷ []) }
 {
-    let acts = Items::from_slice(alloc, &[act])?;
+    let mut acts = Items::new(alloc);
+    acts.push(act)?;
     single(alloc, MarkItem::Pass(acts))
 }
 
@@ -205,7 +217,7 @@ pub(crate) fn first_of(
             Ok(test)
         }
         MarkTree::Guard(guard) => {
-            let end = end_behind(alloc, Act::Check(*guard))?;
+            let end = end_behind(alloc, Act::Check(guard.copy()?))?;
             Ok(end)
         }
         MarkTree::Both(head, tail) => {

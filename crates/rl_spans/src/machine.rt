@@ -1,6 +1,6 @@
 //! Both sides of a comparison, and their steps from pair to pair of their thread lists.
 
-ghost use Rattle.std.specs.Prelude.{◌≡◌, ◌<◌, ℕ, suc, true, false, Some, None, IfOk, IsTrue, length, slice_index_or};
+ghost use Rattle.std.specs.Prelude.{◌≡◌, ◌<◌, ℕ, suc, true, false, Some, None, IfOk, IsTrue, length, map, slice_index_or};
 ghost use Rattle.rl_ranges.specs.Codes.{has};
 ghost use Rattle.rl_syntax.specs.Guards.{is_word};
 ghost use Rattle.rl_marks.specs.Marked.{marked_of};
@@ -9,6 +9,7 @@ ghost use Rattle.rl_marks.specs.internal.PairLetters.{guards_of_both, SameKind};
 ghost use Rattle.rl_marks.specs.Hits.{Matcher};
 ghost use Rattle.rl_marks.specs.internal.Threads.{named, moved, halted};
 ghost use Rattle.rl_spans.specs.internal.Names.{place_named};
+ghost use Rattle.rl_spans.specs.internal.Looks.{looks_of_both};
 ghost use Rattle.rl_spans.specs.internal.Shown.{IsShown};
 ghost use Rattle.rl_spans.specs.internal.Sides.{IsSide, matcher_of, tests_at};
 ghost use Rattle.rl_spans.specs.internal.Machines.{IsMachine, IsMove, KeepsCodes};
@@ -16,12 +17,13 @@ ghost use Rattle.rl_spans.specs.internal.Machines.{IsMachine, IsMove, KeepsCodes
 use crate::agreeing::agree;
 use crate::naming::are_threads_named;
 use crate::relation::{Move, Row};
-use crate::shown::{Words, are_seen_alike};
+use crate::shown::{Shown, Words, are_seen_alike};
 use crate::side::Side;
-use crate::stepping::{Seen, Step, StepError, step_on, stop_at_end};
+use crate::stepping::{Step, StepError, step_on, stop_at_end};
 use rl_lists::{Items, OutOfMemory};
 use rl_marks::MatchEnding;
 use rl_marks::threads::{Caps, Thread, ThreadPair};
+use rl_ranges::CodeSet;
 use std::alloc::Global;
 
 /// Both sides of a comparison, with the codes that stand for their letters.
@@ -35,6 +37,8 @@ pub(crate) struct Machine {
     pub codes: Items<u32>,
     /// The word characters, which guards tell from other codes.
     pub words: Words,
+    /// The sets of the lookarounds of both trees, which these guards tell from other codes.
+    pub looks: Items<CodeSet>,
 }
 
 /// What a pair of thread lists comes to on a code.
@@ -65,26 +69,16 @@ pub(crate) fn stops_before_last(accepts: bool, ending: MatchEnding) -> bool
     accepts && ending != MatchEnding::AtEnd
 }
 
-/// Returns whether guards see the same of `code` as of `before`, which has to be a code.
-fn is_same_kind(words: &Words, code: u32, before: Option<u32>) -> bool
+/// Returns whether guards see the same of `code` as of `before`, which has to be a code. `looks` are the sets of the
+/// lookarounds of both sides.
+fn is_same_kind(words: &Words, looks: &[CodeSet], code: u32, before: Option<u32>) -> bool
     requires all { (c : ℕ) → has words.now.all c ≡ is_word false c }
     requires ascii { (c : ℕ) → has words.now.ascii c ≡ is_word true c }
-    ensures { IsTrue result → (s t : Matcher) → SameKind (guards_of_both s t) (Some code) before }
+    ensures { IsTrue result → (s t : Matcher) → map has looks.now ≡ looks_of_both s t → SameKind (guards_of_both s t) (Some code) before }
 {
     let shown = words.shown(Some(code));
     let seen = words.shown(before);
-    are_seen_alike(shown, seen)
-}
-
-/// Returns the code, or none, with what guards see of it: without a code, of the start or the end of a text.
-pub(crate) fn seen(words: &Words, code: Option<u32>) -> Seen
-    requires all { (c : ℕ) → has words.now.all c ≡ is_word false c }
-    requires ascii { (c : ℕ) → has words.now.ascii c ≡ is_word true c }
-    ensures code { result.code ≡ code }
-    ensures shown { IsShown result.code result.shown }
-{
-    let shown = words.shown(code);
-    Seen { code, shown }
+    are_seen_alike(looks, shown, seen)
 }
 
 /// Returns what both sides of a pair come to on a code. `tests` says for each side which of its places take the code, and
@@ -98,14 +92,14 @@ pub(crate) fn steps_on(
     machine: &Machine,
     tests: (&[bool], &[bool]),
     stops: (bool, bool),
-    before: Seen,
+    before: Shown,
     code: u32,
     pair: &ThreadPair,
 ) -> Result<Steps, StepError>
     requires machine { IsMachine machine.now }
     requires first { tests.0.now ≡ tests_at (marked_of machine.now.first.tree) code }
     requires second { tests.1.now ≡ tests_at (marked_of machine.now.second.tree) code }
-    requires before { IsShown before.code before.shown }
+    requires before { IsShown before }
     ensures left { IfOk result (λ r. r.left ≡ moved (marked_of machine.now.first.tree) stops.0 before.code code 0 (named suc pair.now.left)) }
     ensures right { IfOk result (λ r. r.right ≡ moved (marked_of machine.now.second.tree) stops.1 before.code code 0 (named suc pair.now.right)) }
     ensures agree { IfOk result (λ r. IsTrue r.agree → Agrees pair.now.agree
@@ -113,7 +107,7 @@ pub(crate) fn steps_on(
         (halted (marked_of machine.now.second.tree) stops.1 before.code (Some code) 0 (named suc pair.now.right))) }
 {
     let codes = machine.codes.as_slice();
-    let shown = machine.words.shown(Some(code));
+    let next = machine.words.shown(Some(code));
     let left = step_on(
         alloc,
         &machine.first,
@@ -122,7 +116,7 @@ pub(crate) fn steps_on(
         stops.0,
         before,
         code,
-        shown,
+        next,
         pair.left.as_slice(),
     )?;
     let right = step_on(
@@ -133,7 +127,7 @@ pub(crate) fn steps_on(
         stops.1,
         before,
         code,
-        shown,
+        next,
         pair.right.as_slice(),
     )?;
     let agree = agree(pair.agree, &left.stop, &right.stop);
@@ -163,13 +157,13 @@ pub(crate) fn is_move(
     machine: &Machine,
     pairs: &[ThreadPair],
     accepts: bool,
-    before: Seen,
+    before: Shown,
     pair: &ThreadPair,
     letter: usize,
     step: &Move,
 ) -> Result<bool, StepError>
     requires machine { IsMachine machine.now }
-    requires shown { IsShown before.code before.shown }
+    requires shown { IsShown before }
     requires before { before.code ≡ pair.now.before }
     requires letter { letter < length machine.now.codes }
     ensures { IfOk result (λ ok. IsTrue ok → IsMove (matcher_of machine.now.first) (matcher_of machine.now.second) pairs.now accepts pair.now
@@ -179,7 +173,7 @@ pub(crate) fn is_move(
         return Ok(false);
     };
     let code = machine.codes.as_slice()[letter];
-    if !is_same_kind(&machine.words, code, next.before) {
+    if !is_same_kind(&machine.words, machine.looks.as_slice(), code, next.before) {
         return Ok(false);
     }
     let tests = (

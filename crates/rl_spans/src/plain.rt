@@ -19,7 +19,7 @@ pub(crate) fn plain_of(alloc: Global, tree: &MarkTree) -> Result<Re, OutOfMemory
     match tree {
         MarkTree::Empty => Ok(Re::Empty),
         MarkTree::One(set) => Ok(Re::One(set.copy()?)),
-        MarkTree::Guard(guard) => Ok(Re::Guard(*guard)),
+        MarkTree::Guard(guard) => Ok(Re::Guard(guard.copy()?)),
         MarkTree::Both(first, second) | MarkTree::Further(first, second) => {
             let first = plain_of(alloc, first)?;
             let second = plain_of(alloc, second)?;

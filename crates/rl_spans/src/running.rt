@@ -15,10 +15,9 @@ ghost use Rattle.rl_spans.specs.internal.Shown.{IsShown};
 ghost use Rattle.rl_spans.specs.internal.Sides.{IsSide};
 
 use crate::checking::begin_threads;
-use crate::machine::seen;
-use crate::shown::Words;
+use crate::shown::{Shown, Words};
 use crate::side::{Side, tests_of};
-use crate::stepping::{Seen, Step, StepError, stop_of};
+use crate::stepping::{Step, StepError, stop_of};
 use crate::threads::{distinct_of, spread_of, taken_of};
 use rl_lists::{Items, OutOfMemory};
 use rl_marks::MatchEnding;
@@ -75,25 +74,18 @@ fn tries_at_place(
     alloc: Global,
     side: &Side,
     codes: &[u32],
-    before: Seen,
-    next: Seen,
+    before: Shown,
+    next: Shown,
     place: u32,
     threads: &[Thread],
 ) -> Result<Items<Try>, OutOfMemory>
     requires side { IsSide codes.now side.now }
-    requires before { IsShown before.code before.shown }
-    requires next { IsShown next.code next.shown }
+    requires before { IsShown before }
+    requires next { IsShown next }
     requires inside { All (λ (t : Thread). t.state < length side.now.rows) threads.now }
     ensures { IfOk result (λ l. l ≡ spread (marked_of side.now.tree) before.code next.code place threads.now) }
 {
-    spread_of(
-        alloc,
-        side.rows.as_slice(),
-        before.shown,
-        next.shown,
-        place,
-        threads,
-    )
+    spread_of(alloc, side.rows.as_slice(), before, next, place, threads)
 }
 
 /// Returns what a side's threads come to on the code at a position. `accepts` says whether a match may end before the code.
@@ -102,15 +94,15 @@ fn step_at(
     side: &Side,
     codes: &[u32],
     accepts: bool,
-    before: Seen,
-    next: Seen,
+    before: Shown,
+    next: Shown,
     code: u32,
     place: u32,
     threads: &[Thread],
 ) -> Result<Step, OutOfMemory>
     requires side { IsSide codes.now side.now }
-    requires before { IsShown before.code before.shown }
-    requires next { IsShown next.code next.shown }
+    requires before { IsShown before }
+    requires next { IsShown next }
     requires code { next.code ≡ Some code }
     requires inside { All (λ (t : Thread). t.state < length side.now.rows) threads.now }
     ensures stop { IfOk result (λ r. r.stop ≡ halted (marked_of side.now.tree) accepts before.code (Some code) place threads.now) }
@@ -187,8 +179,8 @@ pub(crate) fn found_from(
         let code = code_at(text, index);
         let accepts = is_hit(side.ending, advance, text, start, index);
         let previous = code_before(text, index);
-        let before = seen(words, previous);
-        let next = seen(words, Some(code));
+        let before = words.shown(previous);
+        let next = words.shown(Some(code));
         let step = step_at(
             alloc,
             side,
@@ -206,8 +198,8 @@ pub(crate) fn found_from(
     let last = place_of(size)?;
     let stops = is_hit(side.ending, advance, text, start, size);
     let final_code = code_before(text, size);
-    let behind = seen(words, final_code);
-    let end = seen(words, None);
+    let behind = words.shown(final_code);
+    let end = words.shown(None);
     let tries = tries_at_place(alloc, side, codes, behind, end, last, threads.as_slice())?;
     let stop = stop_of(alloc, stops, tries.as_slice())?;
     Ok(later(last, stop, found))

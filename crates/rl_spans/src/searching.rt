@@ -6,7 +6,7 @@ ghost use Rattle.rl_spans.specs.internal.Machines.{IsMachine};
 
 use crate::canonical::{Named, key_of, named_anew};
 use crate::checking::{begin_pair, keeps_end, keeps_last, tells_last_apart};
-use crate::machine::{Machine, seen, steps_on, stops_before};
+use crate::machine::{Machine, steps_on, stops_before};
 use crate::relation::{Move, Row, SpanRelation};
 use crate::shown::are_seen_alike;
 use crate::side::Side;
@@ -88,7 +88,7 @@ fn kind_of(machine: &Machine, code: u32) -> u32
     let wanted = machine.words.shown(Some(code));
     for other in machine.codes.as_slice() {
         let shown = machine.words.shown(Some(*other));
-        if are_seen_alike(shown, wanted) {
+        if are_seen_alike(machine.looks.as_slice(), shown, wanted) {
             return *other;
         }
     }
@@ -105,7 +105,7 @@ fn parting_of(
 ) -> Result<Parting, StepError>
     requires { IsMachine machine.now }
 {
-    let before = seen(&machine.words, pair.before);
+    let before = machine.words.shown(pair.before);
     if !keeps_end(alloc, machine, accepts, before, pair)? {
         return Ok(Parting::End);
     }
@@ -135,7 +135,7 @@ fn next_on(
         stops_before(accepts, true, machine.first.ending),
         stops_before(accepts, true, machine.second.ending),
     );
-    let before = seen(&machine.words, pair.before);
+    let before = machine.words.shown(pair.before);
     let steps = steps_on(alloc, machine, tests, stops, before, code, pair)?;
     let kind = kind_of(machine, code);
     let named = named_anew(

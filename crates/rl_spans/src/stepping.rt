@@ -39,15 +39,6 @@ impl From<OutOfMemory> for StepError {
     }
 }
 
-/// A code, or none, with what guards see of it.
-#[derive(Clone, Copy)]
-pub(crate) struct Seen {
-    /// The code, if there is one.
-    pub code: Option<u32>,
-    /// What guards see of it.
-    pub shown: Shown,
-}
-
 /// Returns the name one greater, or [`StepError::Outside`] for the greatest `u32`.
 fn next_name(name: u32) -> Result<u32, StepError>
     ensures { IfOk result (λ n. n ≡ suc name) }
@@ -134,13 +125,13 @@ fn tries_at(
     alloc: Global,
     side: &Side,
     codes: &[u32],
-    before: Seen,
-    next: Seen,
+    before: Shown,
+    next: Shown,
     threads: &[Thread],
 ) -> Result<Items<Try>, StepError>
     requires side { IsSide codes.now side.now }
-    requires before { IsShown before.code before.shown }
-    requires next { IsShown next.code next.shown }
+    requires before { IsShown before }
+    requires next { IsShown next }
     ensures { IfOk result (λ l. l ≡ spread (marked_of side.now.tree) before.code next.code 0 (named suc threads.now)) }
 {
     let states = side.rows.len();
@@ -148,8 +139,8 @@ fn tries_at(
     let tries = spread_of(
         alloc,
         side.rows.as_slice(),
-        before.shown,
-        next.shown,
+        before,
+        next,
         0,
         moved.as_slice(),
     )?;
@@ -188,20 +179,17 @@ pub(crate) fn stop_at_end(
     side: &Side,
     codes: &[u32],
     accepts: bool,
-    before: Seen,
+    before: Shown,
     end: Shown,
     threads: &[Thread],
 ) -> Result<Option<Caps>, StepError>
     requires side { IsSide codes.now side.now }
-    requires before { IsShown before.code before.shown }
-    requires end { IsShown None end }
+    requires before { IsShown before }
+    requires end { IsShown end }
+    requires none { end.code ≡ None }
     ensures { IfOk result (λ o. o ≡ halted (marked_of side.now.tree) accepts before.code None 0 (named suc threads.now)) }
 {
-    let next = Seen {
-        code: None,
-        shown: end,
-    };
-    let tries = tries_at(alloc, side, codes, before, next, threads)?;
+    let tries = tries_at(alloc, side, codes, before, end, threads)?;
     let stop = stop_of(alloc, accepts, tries.as_slice())?;
     Ok(stop)
 }
@@ -214,22 +202,19 @@ pub(crate) fn step_on(
     codes: &[u32],
     tests: &[bool],
     accepts: bool,
-    before: Seen,
+    before: Shown,
     code: u32,
-    shown: Shown,
+    next: Shown,
     threads: &[Thread],
 ) -> Result<Step, StepError>
     requires side { IsSide codes.now side.now }
     requires tests { tests.now ≡ tests_at (marked_of side.now.tree) code }
-    requires before { IsShown before.code before.shown }
-    requires shown { IsShown (Some code) shown }
+    requires before { IsShown before }
+    requires next { IsShown next }
+    requires code { next.code ≡ Some code }
     ensures stop { IfOk result (λ r. r.stop ≡ halted (marked_of side.now.tree) accepts before.code (Some code) 0 (named suc threads.now)) }
     ensures threads { IfOk result (λ r. r.threads ≡ moved (marked_of side.now.tree) accepts before.code code 0 (named suc threads.now)) }
 {
-    let next = Seen {
-        code: Some(code),
-        shown,
-    };
     let tries = tries_at(alloc, side, codes, before, next, threads)?;
     let stop = stop_of(alloc, accepts, tries.as_slice())?;
     let taken = taken_of(alloc, tests, accepts, tries.as_slice())?;

@@ -2,6 +2,8 @@
 //! place.
 
 ghost use Rattle.std.specs.Prelude.{◌≡◌, ◌≤◌, true, ◌∷◌, ◌++◌, length, OnOk, map, slice_index_or, IfOk};
+ghost use Rattle.rl_ranges.specs.Codes.{has};
+ghost use Rattle.rl_syntax.specs.Guards.{sees};
 ghost use Rattle.rl_marks.specs.internal.Caps.{span_named};
 ghost use Rattle.rl_marks.specs.internal.Threads.{stopped, distinct, named};
 ghost use Rattle.rl_spans.specs.internal.Among.{is_among};
@@ -12,22 +14,43 @@ use crate::caps::{after_acts, copy_of};
 use crate::shown::Shown;
 use rl_lists::{Items, OutOfMemory};
 use rl_marks::threads::{Act, Caps, MarkItem, Thread, Try};
-use rl_syntax::Guard;
+use rl_syntax::{CodeSet, Guard};
 use std::alloc::Global;
 
+/// Returns whether a lookaround of the set holds where it looks at this code. At an end of the text there is no code, and no
+/// set holds it.
+#[tactic(auto, unfolding(rl_syntax::specs::Guards::is_in, rl_syntax::specs::Guards::sees))]
+fn is_looked_at(set: &CodeSet, negated: bool, code: Option<u32>) -> bool
+    ensures { result ≡ sees negated (has set.now) code }
+{
+    match code {
+        None => negated,
+        Some(code) if negated => !set.contains(code),
+        Some(code) => set.contains(code),
+    }
+}
+
 /// Returns whether the guard holds at the place.
-pub(crate) fn is_met(guard: Guard, before: Shown, next: Shown) -> bool
-    ensures { result ≡ met guard before next }
+pub(crate) fn is_met(guard: &Guard, before: Shown, next: Shown) -> bool
+    ensures { result ≡ met guard.now before next }
 {
     match guard {
-        Guard::Start => before.none,
-        Guard::LineStart => before.none || before.line_feed,
-        Guard::LineEnd => next.none || next.line_feed,
-        Guard::TextEnd => next.none,
+        Guard::Start => before.code.is_none(),
+        Guard::LineStart => before.code.is_none() || before.line_feed,
+        Guard::LineEnd => next.code.is_none() || next.line_feed,
+        Guard::TextEnd => next.code.is_none(),
         Guard::Word(true) => before.ascii_word != next.ascii_word,
         Guard::Word(false) => before.word != next.word,
         Guard::NotWord(true) => before.ascii_word == next.ascii_word,
         Guard::NotWord(false) => before.word == next.word,
+        Guard::Look {
+            behind,
+            negated,
+            set,
+        } => {
+            let seen = if *behind { before.code } else { next.code };
+            is_looked_at(set, *negated, seen)
+        }
     }
 }
 
@@ -36,7 +59,7 @@ pub(crate) fn are_allowed(acts: &[Act], before: Shown, next: Shown) -> bool
     ensures { result ≡ all_met acts.now before next }
 {
     for act in acts {
-        if let Act::Check(guard) = *act {
+        if let Act::Check(guard) = act {
             if !is_met(guard, before, next) {
                 return false;
             }

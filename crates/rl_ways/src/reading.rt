@@ -2,7 +2,7 @@
 
 ghost use Rattle.std.specs.Prelude.{◌≡◌, ℕ, ◌<◌, ◌≤◌, ◌+◌, true, false, Some, length, slice_get, IfOk, IfSome, IfNone, IsTrue};
 ghost use Rattle.rl_ranges.specs.Codes.{has};
-ghost use Rattle.rl_syntax.specs.Guards.{is_word, is_in, is_line_feed, holds};
+ghost use Rattle.rl_syntax.specs.Guards.{is_word, is_in, is_line_feed, sees, holds};
 ghost use Rattle.rl_syntax.specs.Tree.{tree_of, places, size};
 ghost use Rattle.rl_syntax.specs.declared.limits.TheConstants.{MOST_NODES};
 ghost use Rattle.rl_prio.specs.Items.{all_hold, set_of};
@@ -67,12 +67,24 @@ fn is_line_end(code: Option<u32>) -> bool
     }
 }
 
+/// Returns whether a lookaround of the set holds where it looks at this code, which may be missing.
+#[tactic(auto, unfolding(rl_syntax::specs::Guards::is_in, rl_syntax::specs::Guards::sees))]
+fn is_seen(set: &CodeSet, negated: bool, seen: Option<u32>) -> bool
+    ensures { result ≡ sees negated (has set.now) seen }
+{
+    let held = match seen {
+        None => false,
+        Some(code) => set.contains(code),
+    };
+    if negated { !held } else { held }
+}
+
 /// Returns whether a guard holds between two codes, each of which may be missing.
 #[tactic(auto, unfolding(rl_syntax::specs::Guards::holds))]
-fn is_met(words: &Words, guard: Guard, before: Option<u32>, next: Option<u32>) -> bool
+fn is_met(words: &Words, guard: &Guard, before: Option<u32>, next: Option<u32>) -> bool
     requires all { (c : ℕ) → has words.now.all c ≡ is_word false c }
     requires ascii { (c : ℕ) → has words.now.ascii c ≡ is_word true c }
-    ensures { result ≡ holds guard before next }
+    ensures { result ≡ holds guard.now before next }
 {
     match guard {
         Guard::Start => before.is_none(),
@@ -80,14 +92,22 @@ fn is_met(words: &Words, guard: Guard, before: Option<u32>, next: Option<u32>) -
         Guard::LineEnd => next.is_none() || is_line_end(next),
         Guard::TextEnd => next.is_none(),
         Guard::Word(ascii) => {
-            let left = is_word_code(words, ascii, before);
-            let right = is_word_code(words, ascii, next);
+            let left = is_word_code(words, *ascii, before);
+            let right = is_word_code(words, *ascii, next);
             left != right
         }
         Guard::NotWord(ascii) => {
-            let left = is_word_code(words, ascii, before);
-            let right = is_word_code(words, ascii, next);
+            let left = is_word_code(words, *ascii, before);
+            let right = is_word_code(words, *ascii, next);
             left == right
+        }
+        Guard::Look {
+            behind,
+            negated,
+            set,
+        } => {
+            let seen = if *behind { before } else { next };
+            is_seen(set, *negated, seen)
         }
     }
 }
@@ -99,7 +119,7 @@ fn are_met(words: &Words, guards: &[Guard], before: Option<u32>, next: Option<u3
     ensures { result ≡ all_hold guards.now before next }
 {
     for guard in guards {
-        if !is_met(words, *guard, before, next) {
+        if !is_met(words, guard, before, next) {
             return false;
         }
     }

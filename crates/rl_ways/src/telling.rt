@@ -53,6 +53,17 @@ fn decisions_of_both(
     Ok(list)
 }
 
+/// Appends copies of guards.
+fn add_guards(list: &mut Items<Guard>, guards: &[Guard]) -> Result<(), OutOfMemory>
+    ensures { OnOk result (list.new ≡ list.old ++ guards.now) }
+{
+    for guard in guards {
+        let copy = guard.copy()?;
+        list.push(copy)?;
+    }
+    Ok(())
+}
+
 /// Returns the guards of the first list and then those of the second.
 fn guards_of_both(
     alloc: Global,
@@ -61,10 +72,10 @@ fn guards_of_both(
 ) -> Result<Items<Guard>, OutOfMemory>
     ensures { IfOk result (λ l. l ≡ guards.now ++ others.now) }
 {
-    let mut list = Items::from_slice(alloc, guards)?;
-    for guard in others {
-        list.push(*guard)?;
-    }
+    let room = Vec::with_capacity(alloc, guards.len() + others.len())?;
+    let mut list = Items::from_vec(room);
+    add_guards(&mut list, guards)?;
+    add_guards(&mut list, others)?;
     Ok(list)
 }
 
@@ -168,10 +179,12 @@ fn plain(alloc: Global, place: Option<u32>) -> Result<Items<ToldItem>, OutOfMemo
 }
 
 /// Returns the list of one told item: the end after a guard.
-fn end_behind(alloc: Global, guard: Guard) -> Result<Items<ToldItem>, OutOfMemory>
-    ensures { IfOk result (λ l. l ≡ record { decisions = []; guards = guard ∷ []; place = None } ∷ []) }
+fn end_behind(alloc: Global, guard: &Guard) -> Result<Items<ToldItem>, OutOfMemory>
+    ensures { IfOk result (λ l. l ≡ record { decisions = []; guards = guard.now ∷ []; place = None } ∷ []) }
 {
-    let guards = Items::from_slice(alloc, &[guard])?;
+    let mut guards = Items::new(alloc);
+    let copy = guard.copy()?;
+    guards.push(copy)?;
     single(
         alloc,
         ToldItem {
@@ -211,7 +224,7 @@ pub fn first_of(
     match tree {
         Re::Empty => plain(alloc, None),
         Re::One(_) => plain(alloc, Some(base)),
-        Re::Guard(guard) => end_behind(alloc, *guard),
+        Re::Guard(guard) => end_behind(alloc, guard),
         Re::Both(first, second) => {
             let items = first_of(alloc, first, base, number + 1)?;
             let others = first_of(

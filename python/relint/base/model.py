@@ -20,9 +20,12 @@ MODES = ("search", "match", "fullmatch")
 CALLS = ("compile", "match", "search", "fullmatch", "findall", "finditer", "split", "sub", "subn")
 # What an entry can say, by the words of the program's report. The first three are verdicts.
 KINDS = ("degree", "exponential", "undecided", "refused", "unreadable", "too-deep-folder", "not-plain")
-# How an entry's class is known: by the program, which read the literal in the source itself; by the program, for a pattern
-# that this package found in the source; or only by a trial.
-PROVED, ELSEWHERE, SEEN = "proved", "elsewhere", "seen"
+# How an entry's class is known: by the program, which read the literal in the source itself; by relint-ask, for such a
+# literal whose pattern the program doesn't analyse; by relint-ask, for a pattern that this package found in the source; or
+# only by a trial.
+PROVED, BEYOND, ELSEWHERE, SEEN = "proved", "beyond", "elsewhere", "seen"
+# The causes for which the program refuses patterns that relint-ask may judge all the same.
+WIDER = ("lookaround", "inner-anchor")
 # What becomes of an entry. Only those in state NEW make the command fail.
 NEW, ACCEPTED, UNUSED, IGNORED, WARNED, KNOWN, OTHER = "new", "accepted", "unused", "ignored", "warned", "known", "other"
 
@@ -75,6 +78,7 @@ class Verdict:
 
     `kind` is degree, exponential or undecided. An undecided pattern exceeded the limit named by `limit`, whose value is
     `over`; `at_least` and `at_most` are the bounds that laws give all the same. `family` has texts that show the class.
+    `beyond` names what of the pattern only relint-ask judges, as causes of WIDER; None if the program judges it too.
     """
 
     kind: str
@@ -84,6 +88,7 @@ class Verdict:
     family: Optional[Family] = None
     at_least: Optional[Bound] = None
     at_most: Optional[Bound] = None
+    beyond: Optional[Tuple[str, ...]] = None
 
     def is_finding(self, max_degree: int) -> bool:
         """Returns whether the class, or what it is at least, is exponential or a degree above `max_degree`."""
@@ -307,8 +312,8 @@ class Seen:
 class Finding:
     """An entry of a run, with what is known of it; a field that isn't known is None or empty.
 
-    `known` is PROVED, ELSEWHERE or SEEN. `mode` is the mode of the use under which the class is worst or, if the uses aren't
-    known, the one in which `entry` was judged; `by_mode` has the classes in the modes that were asked. `state` is NEW,
+    `known` is PROVED, BEYOND, ELSEWHERE or SEEN. `mode` is the mode of the use under which the class is worst or, if the uses
+    aren't known, the one in which `entry` was judged; `by_mode` has the classes in the modes that were asked. `state` is NEW,
     ACCEPTED, UNUSED (no use reaches the cost), IGNORED (a comment hides it), WARNED (a lower degree that is shown too), KNOWN
     (it stands in the earlier commit already) or OTHER (no finding). `reason` is why it was accepted. `lines` are the source
     lines to show, each with its number.
@@ -332,6 +337,11 @@ class Finding:
     def verdict(self) -> Optional[Verdict]:
         """The class in the mode `mode`, or that of the entry."""
         return self.by_mode.get(self.mode, self.entry.verdict)
+
+    @property
+    def is_own(self) -> bool:
+        """Whether the program itself read the pattern, or that there is one, in the source."""
+        return self.known in (PROVED, BEYOND)
 
     @property
     def pattern(self) -> Text:

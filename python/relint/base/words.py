@@ -8,7 +8,7 @@ import shlex
 from functools import lru_cache
 from typing import Dict, List, Optional, Sequence, Tuple
 
-from .model import ELSEWHERE, SEEN, Family, Finding, Offer, Text, Use, Verdict
+from .model import BEYOND, ELSEWHERE, SEEN, Family, Finding, Offer, Text, Use, Verdict
 from .safe import visible
 
 # How many steps a second Python's `re` does on a machine of middling speed, if `rlt confirm` has measured none.
@@ -42,10 +42,10 @@ CAUSES: Dict[str, str] = {
     "repeat-order": "a repeat whose least count is above its greatest; re refuses it too",
     "possessive": "a possessive quantifier, as a*+",
     "backreference": "a backreference, as \\1",
-    "lookaround": "a lookahead or lookbehind, as (?=a)",
+    "lookaround": "a lookahead or lookbehind of more than one character, as (?=ab)",
     "conditional": "a conditional group, as (?(1)a|b)",
     "atomic": "an atomic group, as (?>a)",
-    "inner-anchor": "a $ before the end of the pattern, without MULTILINE",
+    "inner-anchor": "a $ that something can follow, without MULTILINE",
     "not-bytes": "a bytes pattern with a character above \\xff",
     "unreadable": "the file or folder can't be read",
     "too-deep-folder": "a folder more than 64 levels below the named path",
@@ -60,6 +60,7 @@ LIMITS = {
     "pairs": "too many pairs of places",
 }
 LAWS = {"search-costs-its-match": "by its match", "one-degree-more": "by its match"}
+BY_ASK = "proved by relint-ask, beyond relint's profile"
 
 
 def _degree_name(degree: int, last: int) -> str:
@@ -80,6 +81,9 @@ RULES: Dict[str, Tuple[str, str]] = {
                           "A pattern that is no literal in a call of re, and can be very slow") for it in range(50)},
     **{f"RLT{350 + it}": ("SeenToHang" + _degree_name(it, 49),
                           "A pattern that isn't analysed, and was seen to hang") for it in range(50)},
+    **{f"RLT{400 + it}": ("BeyondProfile" + _degree_name(it, 99),
+                          "A pattern that relint-ask judges beyond relint's profile, and can be very slow")
+       for it in range(100)},
 }
 
 
@@ -87,7 +91,7 @@ def rule_of(finding: Finding) -> str:
     """Returns the code of a finding's rule, such as "RLT100", by its class in the mode of its worst use."""
     verdict, kind = finding.verdict, finding.entry.kind
     if finding.known == SEEN or verdict is not None and verdict.rank() >= 0:
-        first, last = {SEEN: (350, 49), ELSEWHERE: (300, 49)}.get(finding.known, (100, 99))
+        first, last = {SEEN: (350, 49), ELSEWHERE: (300, 49), BEYOND: (400, 99)}.get(finding.known, (100, 99))
         rank = verdict.rank() if verdict is not None else -1
         return f"RLT{first + (0 if rank < 0 or rank == 1_000_000 else min(max(rank, 1), last))}"
     if verdict is not None:
@@ -122,6 +126,12 @@ def class_word(verdict: Verdict) -> str:
         law = LAWS.get(bound.law, visible(bound.law))
         return f"{'' if worst else 'at least '}{_class(bound.kind, bound.degree)} ({law})"
     return "undecided" if verdict.at_most is None else f"at most {_class(verdict.at_most.kind, verdict.at_most.degree)}"
+
+
+def known_word(verdict: Verdict) -> str:
+    """Returns a class in words, and that only relint-ask proves it if that is so."""
+    word = class_word(verdict)
+    return f"{word}, {BY_ASK}" if verdict.beyond and word != "undecided" else word
 
 
 def seconds_words(seconds: float) -> str:
@@ -162,8 +172,9 @@ def danger(finding: Finding, steps_a_second: Optional[int] = None) -> str:
     """
     verdict, growth, seen = finding.verdict, finding.growth, finding.seen
     act = "search" if finding.mode == "search" else "match"
-    word = class_word(verdict) if verdict is not None else "slow"
+    word = known_word(verdict) if verdict is not None else "slow"
     if seen is not None:
+        word = class_word(verdict) if verdict is not None else word
         return (f"{word}, seen to hang: a text of {_unit(seen.length, finding.pattern)} keeps this {act} busy for over "
                 f"{counted(round(seen.seconds), 'second')} on {visible(seen.python)}")
     if growth is None:
@@ -176,11 +187,11 @@ def outcome(finding: Finding) -> str:
     """Returns what is said of an entry that isn't a finding: its class, why it is open, or why it wasn't judged."""
     verdict, entry = finding.verdict, finding.entry
     if verdict is not None and verdict.kind != "undecided":
-        return class_word(verdict)
+        return known_word(verdict)
     if verdict is not None:
         limit = LIMITS.get(verdict.limit or "", "nobody can tell")
         more = ", --max-pairs 1000 may decide it" if verdict.limit == "pairs" and (verdict.over or 0) < 1000 else ""
-        bound = f"; {class_word(verdict)}" if class_word(verdict) != "undecided" else ""
+        bound = f"; {known_word(verdict)}" if class_word(verdict) != "undecided" else ""
         return f"undecided: {limit} ({verdict.limit} over {verdict.over or 0:,}{more}){bound}"
     cause = entry.cause or entry.kind
     at = f", at {entry.fault.line}:{entry.fault.column}" if entry.fault else ""
@@ -342,7 +353,8 @@ def explained(topic: str) -> Optional[str]:
 
 def topics(near: str = "") -> List[str]:
     """Returns what can be explained: codes, causes and pages; with `near`, only the topics that are near to that word."""
-    every = ["RLT100", "RLT103", "RLT200", "RLT201", "RLT202", "RLT203", "RLT300", "RLT350", *CAUSES, *LIMITS, *pages()]
+    codes = ("RLT100", "RLT103", "RLT200", "RLT201", "RLT202", "RLT203", "RLT300", "RLT350", "RLT400")
+    every = [*codes, *CAUSES, *LIMITS, *pages()]
     if not near:
         return every
     close: List[str] = importlib.import_module("difflib").get_close_matches(near.lower(), [it.lower() for it in every], 3)

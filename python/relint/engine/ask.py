@@ -10,9 +10,10 @@ import select
 import time
 from collections import deque
 from contextlib import suppress
+from dataclasses import replace
 from typing import Any, Deque, Dict, Iterator, List, Mapping, Optional, Sequence, Tuple
 
-from ..base.model import Text, Verdict
+from ..base.model import WIDER, Text, Verdict
 from ..options import Options
 from .engine import DECODER, ReportError, read_verdict
 from .program import READ_AT_A_TIME, NotFound, ProgramError, Running, located
@@ -257,6 +258,7 @@ def verdict_of(answer: Mapping[str, Any]) -> Optional[Verdict]:
     if answer.get("answer") not in ("class", "ways"):
         return None
     try:
-        return read_verdict(answer)
+        beyond = tuple(it for it in WIDER if it in answer.get("beyond", ()))
+        return replace(read_verdict(answer), beyond=beyond or None)
     except (ReportError, KeyError, TypeError, AttributeError):
         return None

@@ -19,7 +19,7 @@ from dataclasses import dataclass
 from itertools import accumulate
 from typing import Dict, Iterator, List, NamedTuple, Optional, Sequence, Tuple, Union
 
-from ..base.model import NEW, PROVED, Entry, Finding, Literal, Offer, Site, Text
+from ..base.model import NEW, WIDER, Entry, Finding, Literal, Offer, Site, Text
 from ..base.safe import OpenError, WriteError, is_seen, names_below, place_of, read_below, reason, replace_file, visible
 from ..base.words import counted
 from ..code.source import BYTES_ESCAPE, ESCAPE, RAW_CODE, STRING
@@ -254,7 +254,7 @@ class Change:
         Raises Unchangeable if it doesn't find what `findings` say, or afterwards anything else but the changed classes; raises
         ProgramError if it can't be run.
         """
-        entries = [it.entry for it in findings if it.entry.path == self.path and it.known == PROVED]
+        entries = [it.entry for it in findings if it.entry.path == self.path and it.is_own]
         with tempfile.TemporaryDirectory(prefix="relint-") as folder:
             paths = [os.path.join(folder, it) for it in ("before.py", "after.py")]
             for path, data in zip(paths, (self.data, self.text.encode("utf-8"))):
@@ -347,6 +347,9 @@ def _key(entry: Entry) -> Tuple[object, ...]:
 
 def _is_no_worse(one: Entry, other: Entry) -> bool:
     """Whether a changed entry has a class that isn't higher than it was."""
+    if other.cause in WIDER:
+        # (relint-ask judged the new pattern, and the literals give just that)
+        return True
     ranks = [it.verdict.rank() if it.verdict is not None else -1 for it in (one, other)]
     return 0 <= ranks[1] and (ranks[1] <= ranks[0] or ranks[0] < 0)
 

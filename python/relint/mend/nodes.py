@@ -19,6 +19,8 @@ from ..engine.ask import LETTERS, letters
 
 NO_BOUND = 1 << 40
 CHARS, GUARD, ROW, CHOICE, REPEAT, GROUP = "chars", "guard", "row", "choice", "repeat", "group"
+# How looks begin, by whether they look behind and whether they are negated.
+LOOKS = {(False, False): "(?=", (False, True): "(?!", (True, False): "(?<=", (True, True): "(?<!"}
 MOST_DEPTH, MOST_PROBES, MOST_MATCHED = 100, 150, 1_000_000
 
 
@@ -43,8 +45,9 @@ class Facts(NamedTuple):
 class Node:
     """A node: a set of characters (CHARS), a condition on a place (GUARD), a ROW, a CHOICE, a REPEAT or a capturing GROUP.
 
-    `most` is NO_BOUND for a repeat without a bound. `name` is that of a group, or the text of a guard. `text` is how a set was
-    written, and "" for a new one. A row isn't directly in a row, nor a choice in a choice.
+    `most` is NO_BOUND for a repeat without a bound. `name` is that of a group, or the text of a guard; for a look it is how it
+    begins, and `mask` is the set that it looks for. `text` is how a set was written, and "" for a new one. A row isn't
+    directly in a row, nor a choice in a choice.
     """
 
     kind: str
@@ -62,7 +65,9 @@ class Node:
     def __post_init__(self) -> None:
         """Works out the facts from those of the parts."""
         every = [it.facts for it in self.items]
-        nullable, first, mask, size = self.kind in (GUARD, ROW), self.mask, self.mask, 1
+        # (a guard reads no letter)
+        mask = first = 0 if self.kind == GUARD else self.mask
+        nullable, size = self.kind in (GUARD, ROW), 1
         groups: List[Tuple[int, str]] = [(self.number, self.name)] if self.kind == GROUP else []
         for it in every:
             if self.kind != ROW or nullable:
@@ -107,6 +112,11 @@ def chars(mask: int) -> Node:
 def guard(text: str) -> Node:
     """Returns a new condition on a place, which is written as `text`."""
     return Node(GUARD, name=text)
+
+
+def look(behind: bool, negated: bool, mask: int) -> Node:
+    """Returns a new look at one character: before or behind a place, of the set or (`negated`) none of it."""
+    return Node(GUARD, name=LOOKS[behind, negated], mask=mask)
 
 
 def row(items: Iterable[Node]) -> Node:
@@ -194,7 +204,7 @@ def positions(node: Node, path: Tuple[int, ...] = ()) -> Iterator[Tuple[Tuple[in
 MEMBER = re.compile(r"\\(?:x[0-9a-fA-F]{2}|u[0-9a-fA-F]{4}|U[0-9a-fA-F]{8}|[0-7]{1,3}|[\s\S])|[\s\S]")
 CLASS = re.compile(r"\[\^?\]?(?:\\[\s\S]|[^\]\\])*\]")
 ESCAPE = re.compile(r"\\(?:x[0-9a-fA-F]{2}|u[0-9a-fA-F]{4}|U[0-9a-fA-F]{8}|0[0-7]{0,2}|[1-7][0-7]{2}|[\s\S])")
-OPENING = re.compile(r"\((?:\?(?:P<[^>]*>|[aiLmsux]*(?:-[imsx]+)?:|[aiLmsux]+\)|#[^)]*\)))?")
+OPENING = re.compile(r"\((?:\?(?:P<[^>]*>|<?[=!]|[aiLmsux]*(?:-[imsx]+)?:|[aiLmsux]+\)|#[^)]*\)))?")
 QUANTIFIER = re.compile(r"(?:[*+?]|\{\d+\}|\{\d*,\d*\})\??")
 TOKEN = "|".join((ESCAPE.pattern, CLASS.pattern, OPENING.pattern, QUANTIFIER.pattern, r"[\s\S]"))
 LAYOUT, BLANKS = r"\(\?#[^)]*\)", r"(?:[ \t\n\r\v\f]|#[^\n]*)+"
@@ -476,6 +486,12 @@ class _Reader(NamedTuple):
             alone = ONE.match(text) is not None and not scoped
             mask = union(1 << letter for letter in it["letters"])
             return Node(CHARS, mask=mask, text=text if alone else "", span=span if alone else None)
+        if kind == "look":
+            new = look(it["behind"], it["negated"], union(1 << letter for letter in it["letters"]))
+            return replace(new, span=span if text.startswith(new.name) and text.endswith(")") else None)
+        if text == "$" and kind in ("nothing", "sequence"):
+            # (at the end of a branch, the answer has what it stands for)
+            return Node(GUARD, name="(?-m:$)" if scoped else text, span=span)
         if kind == "nothing":
             return EMPTY
         if kind in ("anchor", "boundary"):
@@ -542,7 +558,7 @@ def body_text(node: Node, pattern: Pattern) -> str:
     if node.span is not None:
         return pattern.text[node.span[0]:node.span[1]]
     if node.kind == GUARD:
-        return node.name
+        return node.name if node.name not in LOOKS.values() else node.name + body_text(chars(node.mask), pattern) + ")"
     if node.kind == ROW:
         return "".join(_in_parentheses(it, pattern, it.kind == CHOICE) for it in node.items)
     if node.kind == CHOICE:

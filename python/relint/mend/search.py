@@ -25,8 +25,8 @@ from ..trials.trial import GROUPS_TOO, OTHER, SPANS_TOO, TEXTS_ALONE
 from ..trials.tries import Trials
 from . import nodes
 from .nodes import (
-    CHARS, CHOICE, EMPTY, GUARD, REPEAT, ROW, Alphabet, Node, Pattern, Unreadable, again, chars, guard, made, positions, put,
-    row,
+    CHARS, CHOICE, EMPTY, GUARD, REPEAT, ROW, Alphabet, Node, Pattern, Unreadable, again, chars, guard, look, made, positions,
+    put, row,
 )
 from .rules import RULES, WHOLE, Path, Rule, edge, endless_runs, signs, with_edge, word_free
 
@@ -41,6 +41,8 @@ MORE_TRIES, MOST_EVEN, MOST_ADVICE = 10, 8, 4
 DEGREE_WEIGHT, GROUP_WEIGHT, ESCAPE_WEIGHT, NESTED_WEIGHT = 8, 3, 2, 4
 ESCAPED, NESTED = re.compile(r"\\[A-Za-z]"), re.compile(r"\)[*+?}]+\)[*+?{]")
 EXPONENTIAL, MISSED = 1_000_000, 9
+LONG_LOOK = "it finds the same, but relint can't judge a look-ahead of more than one character"
+STOPPED = Rule("stop-run", 3.0, lambda node, alphabet: iter(()), ("", ""))
 
 
 @dataclass(frozen=True)
@@ -169,8 +171,9 @@ class Search:
         if suggestion is not None and isinstance(suggestion, type(self.original)):
             self.try_suggestion(as_text(suggestion))
         self.walk(text, MOST_STEPS + max(0, len(guilty) - 1))
-        if "same" not in self.best or self.best["same"][1].top > self.how.max_degree:
-            self.stop_at_words()
+        for last in (self.stop_runs, self.stop_at_words):
+            if "same" not in self.best or self.best["same"][1].top > self.how.max_degree:
+                last()
         self.miss()
         return self.checked()
 
@@ -412,6 +415,28 @@ class Search:
             self.seen.add(text)
             self.judged(Proposal(0, "suggestion", tree, text), (ranks[0], 0, tuple(ranks[1:])), verdicts[0], ())
 
+    def stop_runs(self) -> None:
+        r"""Tries runs that take all that they can, by looks of one character, as in `(?<!\d)\d+(?!\d)`."""
+        self.tries = 0
+        every = [it for tree in self.with_looks() for it in self.proposal(STOPPED, STOPPED.cost, tree)]
+        kinds = dict(zip((it.text for it in every), self.kinds([it.text for it in every])[0]))
+        for it, worth, verdict in self.worths([it for it in every if kinds[it.text] <= self.how.goal()], self.before):
+            if worth[0] < self.before[0]:
+                self.judged(it, worth, verdict, ())
+
+    def with_looks(self) -> Iterator[Node]:
+        """Yields the tree with a look behind one endless run or all of them, also with one in front of a run that is first."""
+        tree = self.pattern.tree
+        runs, first = list(endless_runs(tree)), edge(tree, 0)
+        for some in [[it] for it in runs] + [runs] * (len(runs) > 1) + [[]] * (first is not None):
+            new = tree
+            # (from right to left, since a new item moves those behind it)
+            for path, node in reversed(some):
+                new = put(new, path, row([node, look(False, True, node.body.mask)]))
+            yield from [new] if some else []
+            if first is not None:
+                yield row([look(True, True, first.body.mask), new])
+
     def stop_at_words(self) -> None:
         """Tries runs that stop at the first word behind them, by an atomic group or a look-ahead.
 
@@ -433,7 +458,7 @@ class Search:
             if top <= self.how.max_degree and verdicts[0] and self.compared(long) == ("", 0):
                 kinds, count = self.kinds([short])
                 if kinds[0] <= self.how.goal() and count > TRIED // 2:
-                    differs = "" if self.how.has_atomic else "it finds the same, but relint can't judge a look-ahead"
+                    differs = "" if self.how.has_atomic else LONG_LOOK
                     self.best["checked"] = (0,), Cure(self.pattern.encoded(short), verdicts[0], differs, 0, ("stop-at-word",),
                                                       top=top, is_proved=False)
                     return

@@ -12,7 +12,7 @@ from html import escape
 from itertools import groupby
 from typing import Dict, Iterator, List, Sequence, Tuple
 
-from ..base.model import ELSEWHERE, PROVED, Finding, Offer, Summary, Text
+from ..base.model import ELSEWHERE, Finding, Offer, Summary, Text
 from ..base.safe import SERVER_COMMAND, escaped
 from ..base.words import counted, danger, offer_words, quoted, rule_of, rule_text, try_line, use_words
 from ..engine.ask import as_text
@@ -64,7 +64,7 @@ def _source(finding: Finding) -> Iterator[str]:
     lines += [f'<span class="number">   .. {counted(left, "line")} more</span>'] if left else []
     if lines:
         yield f'<pre tabindex="0" role="region" aria-label="Source"><code>{chr(10).join(lines)}</code></pre>'
-    if finding.site is not None and (not signs or finding.known != PROVED):
+    if finding.site is not None and (not signs or not finding.is_own):
         pattern = as_text(finding.pattern)
         marked = {at: letter for (start, end), letter in letters.items() for at in range(start, end)}
         yield f"<h3>The pattern</h3><pre tabindex=\"0\"><code>{_line(pattern[:MOST_CODES], marked)}</code></pre>"
@@ -110,7 +110,7 @@ def card(finding: Finding, summary: Summary, number: int) -> str:
     """Returns the card of a finding; `number` is used in its ids, and is different for each card."""
     entry, site, uses = finding.entry, finding.site, finding.uses
     place = f"{entry.path}:{entry.place.line}:{entry.place.column}" if entry.place else entry.path
-    kinds = [class_of(finding).split()[0]] + ([ELSEWHERE] if finding.known != PROVED else [])
+    kinds = [class_of(finding).split()[0]] + ([] if finding.is_own else [ELSEWHERE])
     notes = [*(site.said if site else ()), *([finding.reason] if finding.reason else [])]
     held = [f"{it.name} ({it.path}:{it.line})" for it in (site.holders if site else ())]
     notes += [f"from {', '.join(held)}"] if held else []

@@ -8,9 +8,9 @@ from dataclasses import replace
 from typing import Any, Dict, Iterator, Mapping
 
 from ..base import rate
-from ..base.model import MODES, NEW, OTHER, WARNED, Entry, Finding, Literal, Site, Summary, Text
+from ..base.model import BEYOND, MODES, NEW, OTHER, PROVED, WARNED, Entry, Finding, Literal, Site, Summary, Text
 from ..base.safe import visible, write
-from ..base.words import CAUSES, FLAGS, LIMITS, class_word, danger, outcome, quoted
+from ..base.words import CAUSES, FLAGS, LIMITS, class_word, danger, known_word, outcome, quoted
 from ..engine.ask import Asker, pair, question, verdict_of
 from ..engine.engine import ReportError, read_text
 from ..engine.run import Run
@@ -80,7 +80,7 @@ def _finding(text: Text, flags: int, answers: Mapping[str, Mapping[str, Any]], o
     rank = verdict.rank()
     state = NEW if verdict.is_finding(options.max_degree) else WARNED if rank > 1 else OTHER
     entry = Entry("", verdict.kind, call=options.call, verdict=verdict)
-    return Finding(entry, mode=mode, state=state, site=site, by_mode=classes)
+    return Finding(entry, BEYOND if verdict.beyond else PROVED, mode, state, site=site, by_mode=classes)
 
 
 def _pattern_lines(finding: Finding, summary: Summary, options: Options) -> Iterator[str]:
@@ -121,7 +121,7 @@ def compare(options: Options) -> int:
 def _class(answer: Mapping[str, Any]) -> str:
     """A class in words, or why there is none."""
     verdict = verdict_of(answer)
-    return _unknown(answer) if verdict is None else class_word(verdict)
+    return _unknown(answer) if verdict is None else known_word(verdict)
 
 
 def _unknown(answer: Mapping[str, Any]) -> str:

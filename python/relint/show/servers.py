@@ -229,7 +229,7 @@ def _result(finding: Finding, summary: Summary, options: Options, index: int) ->
         found["suppressions"] = [{"kind": kind, "status": "accepted", "justification": finding.reason or "a noqa comment"}]
     if options.baseline_commit:
         found["baselineState"] = "unchanged" if finding.state == KNOWN else "new"
-    if at is not None and "endLine" in at and finding.known == PROVED:
+    if at is not None and "endLine" in at and finding.is_own:
         found["fixes"] = [_fix(it.literal, offer_words(it), where, at) for it in finding.offers if it.kind == "fix"]
     return {key: it for key, it in found.items() if it != []}
 
@@ -245,16 +245,17 @@ def _fix(literal: str, words: str, where: Dict[str, str], at: Dict[str, int]) ->
 def json_report(findings: Sequence[Finding], summary: Summary, options: Options) -> Iterator[str]:
     """Yields the report in JSON, on one line: the report of `relint check`, version 2, with what `rlt` adds under `rlt`.
 
-    `entries` are those that the program read in the sources itself, and `beyond` the others. All numbers are whole.
+    `entries` are those that the program read in the sources itself, also those that only relint-ask judges, and `beyond` the
+    others. All numbers are whole.
     """
     rows_of_all = [(it, {**entry_json(it.entry), "rlt": added(it, summary)}) for it in summary.clock.within(findings)]
-    proved = [it for it in findings if it.known == PROVED]
+    own = [it for it in findings if it.is_own]
     whole = {
-        "entries": [row for it, row in rows_of_all if it.known == PROVED],
-        "beyond": [row for it, row in rows_of_all if it.known != PROVED],
-        "findings": sum(it.verdict is not None and it.verdict.is_finding(options.max_degree) for it in proved),
-        "refused": sum(it.entry.kind not in ("degree", "exponential", "undecided") for it in proved),
-        "undecided": sum(it.entry.kind == "undecided" for it in proved), "version": 2,
+        "entries": [row for it, row in rows_of_all if it.is_own],
+        "beyond": [row for it, row in rows_of_all if not it.is_own],
+        "findings": sum(it.verdict is not None and it.verdict.is_finding(options.max_degree) for it in own),
+        "refused": sum(it.entry.kind not in ("degree", "exponential", "undecided") for it in own),
+        "undecided": sum(it.entry.kind == "undecided" for it in own), "version": 2,
         "rlt": {"version": summary.version, "files": summary.files, "patterns": summary.patterns,
                 "late": summary.late or summary.clock.left > 0, "milliseconds": round(summary.seconds * 1000),
                 "facts": facts(findings, summary, options)},

@@ -261,7 +261,7 @@ def source_lines(finding: Finding, letters: Letters, paint: Painter) -> Iterator
     left = len(finding.lines) - len(wanted)
     if left > 0:
         yield paint("dim", f"{'':>{size}} | .. {counted(left, 'line')} more")
-    if finding.site is not None and not signs and (letters or finding.known != "proved" or not finding.lines):
+    if finding.site is not None and not signs and (letters or not finding.is_own or not finding.lines):
         yield from _pattern_lines(finding, letters, paint)
 
 

@@ -223,7 +223,8 @@ def can_be_accepted(finding: Finding, options: Options) -> bool:
     """Returns whether a finding is one that an entry may accept: a finding, or a pattern that isn't decided or judged."""
     if finding.state != OTHER:
         return finding.state in (NEW, WARNED)
-    return finding.is_open(options.max_degree) or finding.entry.kind == "refused" and finding.entry.call is not None
+    is_refused = finding.verdict is None and finding.entry.kind == "refused"
+    return finding.is_open(options.max_degree) or is_refused and finding.entry.call is not None
 
 
 def split(findings: Sequence[Finding], accepted: Accepted, options: Options) -> Split:

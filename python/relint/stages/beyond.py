@@ -1,12 +1,15 @@
-"""Findings of patterns that the program doesn't read in the sources itself: by name, in pieces, in frameworks and notebooks.
+"""Findings of patterns that the program doesn't judge, or doesn't read in the sources itself.
 
-Workers find the places, and relint-ask judges the patterns, so these findings are known as ELSEWHERE.
+Workers find patterns by name, in pieces, in frameworks and notebooks, and relint-ask judges them: these findings are known as
+ELSEWHERE. Of the literals that the program itself reads, relint-ask judges some that the program refuses, those with
+lookaround of one character or with a `$` at the end of a branch: these are known as BEYOND.
 """
 from __future__ import annotations
 
-from typing import Dict, List, NamedTuple, Optional, Sequence, Tuple
+from dataclasses import replace
+from typing import Dict, List, Mapping, NamedTuple, Optional, Sequence, Tuple
 
-from ..base.model import ELSEWHERE, OTHER, Entry, Finding, Place, Site, Verdict
+from ..base.model import BEYOND, ELSEWHERE, OTHER, PROVED, WIDER, Entry, Finding, Place, Site, Verdict
 from ..engine.ask import question, verdict_of
 from ..engine.run import Run
 
@@ -39,6 +42,21 @@ def judged(placed: Sequence[Placed], run: Run) -> List[Finding]:
         entry = Entry(it.path, verdict.kind if verdict is not None else "refused", it.place, it.call, verdict, cause)
         found.append(Finding(entry, ELSEWHERE, it.mode, OTHER, site=it.site, lines=it.lines))
     return found
+
+
+def is_asked(finding: Finding) -> bool:
+    """Returns whether relint-ask may judge a finding all the same: the program refuses its literal for a cause of WIDER."""
+    return finding.known == PROVED and finding.entry.kind == "refused" and finding.entry.cause in WIDER
+
+
+def with_classes(finding: Finding, classes: Mapping[str, Verdict]) -> Finding:
+    """Returns a refused finding with its classes by modes, as BEYOND; as it is unless relint-ask judges it in its own mode.
+
+    A class counts only if relint-ask says too that the pattern is beyond the profile: so the program, which refuses the
+    pattern, and the worker that read it for relint-ask read the same.
+    """
+    counted = {mode: verdict for mode, verdict in classes.items() if verdict.beyond}
+    return replace(finding, known=BEYOND, by_mode=counted) if finding.mode in counted else finding
 
 
 def together(files: Sequence[str], *parts: Sequence[Finding]) -> List[Finding]:

@@ -228,12 +228,12 @@ def explained(opened: Opened, at: int) -> Finding:
     Raises ProgramError if relint-ask can't be run.
     """
     it, run = look(opened, at), opened.run
-    left = [mode for mode in MODES if mode not in it.by_mode]
-    if it.site is not None and it.site.flags is not None and it.entry.verdict is not None and left:
+    left, verdict = [mode for mode in MODES if mode not in it.by_mode], it.verdict
+    if it.site is not None and it.site.flags is not None and verdict is not None and left:
         _more_time(run)
         answers = run.asker.verdicts([(it.site.pattern, it.site.flags, mode) for mode in left])
         known = {mode: verdict for mode, verdict in zip(left, answers) if verdict is not None}
-        whole = replace(it, by_mode={it.mode: it.entry.verdict, **known, **it.by_mode})
+        whole = replace(it, by_mode={it.mode: verdict, **known, **it.by_mode})
         opened.findings[at] = growth.explained([whole], run)[0]
     return opened.findings[at]
 

@@ -12,7 +12,7 @@ from collections import Counter
 from dataclasses import replace
 from typing import Callable, Dict, Iterable, Iterator, List, Mapping, NamedTuple, Optional, Sequence, Set, Tuple
 
-from ..base.model import KNOWN, MODES, NEW, OTHER, PROVED, WARNED, Finding, NotLooked
+from ..base.model import KNOWN, MODES, NEW, OTHER, WARNED, Finding, NotLooked
 from ..base.safe import is_utf8
 from ..base.words import CAUSES
 from ..engine.run import Run
@@ -116,7 +116,7 @@ class _Earlier:
         matched = [it for it in map(self._unchanged, waiting) if it is not None]
         kept = {it.at for it in matched}
         left = [at for at in waiting if at not in kept and key_of(self.findings[at]) is not None]
-        if any(self.findings[at].known != PROVED for at in left):
+        if not all(self.findings[at].is_own for at in left):
             # (what a pattern is made of may be in other files)
             self._write(self.blobs)
         for paths in self._changed(left):
@@ -141,8 +141,8 @@ class _Earlier:
 
     def _unchanged(self, at: int) -> Optional[_Matched]:
         """A finding whose file is the same in the earlier commit, and has the pattern itself."""
-        path, is_proved = self.findings[at].entry.path, self.findings[at].known == PROVED
-        return _Matched(at, self.commit.inside(path) or "") if is_proved and self.is_same(path) else None
+        path, is_own = self.findings[at].entry.path, self.findings[at].is_own
+        return _Matched(at, self.commit.inside(path) or "") if is_own and self.is_same(path) else None
 
     def _changed(self, left: Sequence[int]) -> Iterator[List[str]]:
         """Yields files of the earlier commit in which findings may have stood: first their own, then others that changed."""

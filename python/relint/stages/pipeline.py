@@ -10,7 +10,7 @@ from typing import Dict, Iterator, List, Mapping, NamedTuple, Optional, Sequence
 
 from ..base import rate
 from ..base.model import (
-    MODES, NEW, OTHER, PROVED, UNUSED, WARNED, Clock, Entry, Finding, NotLooked, Summary, Text, Uses, Verdict,
+    MODES, NEW, OTHER, PROVED, UNUSED, WARNED, WIDER, Clock, Entry, Finding, NotLooked, Summary, Text, Uses, Verdict,
 )
 from ..base.safe import OpenError, Scratch, is_below, parts_named, read_named, visible
 from ..engine.ask import Asker
@@ -18,7 +18,7 @@ from ..engine.engine import MOST_BYTES, Judged, Progress, ReportError, judge, no
 from ..engine.run import Run
 from ..files import DEEP, WHY, Earlier, choose
 from ..options import CONTROL, Options, version
-from . import accept, across, growth, known, reach
+from . import accept, across, beyond, growth, known, reach
 from .pool import Pool
 from .worker import Worker
 
@@ -230,7 +230,8 @@ def _wanted(findings: Sequence[Finding], run: Run) -> _Wanted:
         entry = it.entry
         if entry.call is None or entry.place is None or it.site is not None and it.site.cell is not None:
             continue
-        is_wanted = it.state != OTHER or it.is_open(run.options.max_degree) or refused and entry.kind == "refused"
+        is_refused = entry.kind == "refused" and (refused or entry.cause in WIDER)
+        is_wanted = it.state != OTHER or it.is_open(run.options.max_degree) or is_refused
         # (a match that is tried from place to place, as a search is, may cost one degree more)
         is_wanted = is_wanted or entry.call == "match" and state_of(_worse(entry.verdict), run.options) != OTHER
         if not is_wanted and entry.call == "compile" and entry.verdict is not None and it.mode != "fullmatch":
@@ -263,9 +264,11 @@ def _accepts_refused(options: Options) -> bool:
 def _modes(finding: Finding, local: Optional[across.LocalUses], options: Options) -> List[str]:
     """The modes in which the class of a finding has to be asked; `local` are its uses in its own file."""
     entry, own = finding.entry, finding.mode
+    is_repeated = entry.call == "match" and local is not None and any(it.repeated for it in local.uses)
     if entry.verdict is None:
-        return []
-    if entry.call == "match" and local is not None and any(it.repeated for it in local.uses):
+        every = MODES if entry.call == "compile" else (own, "search") if is_repeated else (own,)
+        return list(every) if beyond.is_asked(finding) else []
+    if is_repeated:
         return ["search"] if entry.verdict.kind != "undecided" else [own, "search"]
     modes = list(MODES) if entry.call == "compile" else [own]
     is_settled = state_of(entry.verdict, options) == OTHER and not entry.verdict.is_open(options.max_degree)
@@ -287,7 +290,10 @@ def _ask(findings: List[Finding], local: Mapping[int, across.LocalUses], run: Ru
             by_mode.setdefault(at, {})[mode] = verdict
     for at, verdicts in by_mode.items():
         entry = findings[at].entry
-        own = {} if entry.verdict is None or findings[at].mode in verdicts else {findings[at].mode: entry.verdict}
+        if entry.verdict is None:
+            findings[at] = beyond.with_classes(findings[at], verdicts)
+            continue
+        own = {} if findings[at].mode in verdicts else {findings[at].mode: entry.verdict}
         findings[at] = replace(findings[at], by_mode={**own, **verdicts})
 
 

@@ -1,25 +1,27 @@
 -- For the contracts of private functions: attempts, and the item lists of a tree, one for each place, in order. An item is
--- what a backtracking matcher tries next: the test of a place, or the end of the tree, after a list of guards (anchors and
--- word boundaries). An attempt is an item with its guards as a set. The places of a tree are its sets, numbered from left to
--- right.
+-- what a backtracking matcher tries next: the test of a place, or the end of the tree, after a list of guards (anchors, word
+-- boundaries and lookarounds of one character). An attempt is an item with its guards as a set. The places of a tree are its
+-- sets, numbered from left to right. Codes of one kind look alike to all guards of the tree, and `kinds` is the table of the
+-- tree's kinds.
 use Rattle.std.specs.Prelude.{◌≡◌, ℕ, ◌+◌, ◌<◌, ◌≤◌, ◌⊎◌, Bool, true, false, List, [], ◌∷◌, ◌++◌, length, map, max, slice_index_or}
 use Rattle.std.specs.List.{flat_map}
+use Rattle.rl_ranges.specs.Letters.{LetterTable}
 use Rattle.rl_syntax.specs.Tree.{Tree, empty, one, guard, both, either, many, places}
 use Rattle.rl_syntax.specs.declared.limits.TheConstants.{MOST_MOVES}
 use Rattle.rl_prio.specs.Items.{Item, test_at, pass, replaced, first}
-use Rattle.rl_prio.specs.internal.GuardSets.{no_guards, joined, guard_set, met}
+use Rattle.rl_prio.specs.internal.GuardSets.{has_none, joined, guard_set}
 use Rattle.rl_prio.specs.declared.build.guards.Guards.{Guards}
 use Rattle.rl_prio.specs.declared.build.attempts.Attempt.{Attempt}
 use Rattle.rl_prio.specs.declared.build.attempts.Attempt.TheVariants.{Test, End}
 
 -- The attempt of an item, which has the item's guards as a set.
-abbrev pub attempt : Item → Attempt
-attempt (test_at gs p) = Test (guard_set gs) p
-attempt (pass gs) = End (guard_set gs)
+abbrev pub attempt : LetterTable → Item → Attempt
+attempt kinds (test_at gs p) = Test (guard_set kinds gs) p
+attempt kinds (pass gs) = End (guard_set kinds gs)
 
 -- The attempts of the items, in order.
-abbrev pub attempts : List Item → List Attempt
-attempts l = map attempt l
+abbrev pub attempts : LetterTable → List Item → List Attempt
+attempts kinds l = map (attempt kinds) l
 
 -- The guards of an attempt.
 abbrev pub guards_of : Attempt → Guards
@@ -28,7 +30,7 @@ guards_of (End gs) = gs
 
 -- Whether the attempt has no guards.
 abbrev pub is_unguarded : Attempt → Bool
-is_unguarded a = met (guards_of a) no_guards
+is_unguarded a = has_none (guards_of a)
 
 -- Whether the attempt is the test of a place, not an end.
 abbrev pub is_test : Attempt → Bool
@@ -83,10 +85,10 @@ width_of t b = max (length (first t b)) (widest (lists_of t b))
 
 -- Holds if `list` has the attempts of entering the tree, `new` is `old` with the attempt lists of the tree's places appended,
 -- and none of these lists has more than MOST_MOVES attempts. The number of the tree's first place is the number of lists in
--- `old`.
-pub record AreEntered (t : Tree) (old new : List (List Attempt)) (list : List Attempt) : Type 0 where
-  pub entering : list ≡ attempts (first t (length old))
-  pub lists : new ≡ old ++ map attempts (lists_of t (length old))
+-- `old`. The tree may be a part of the one whose kinds are given.
+pub record AreEntered (kinds : LetterTable) (t : Tree) (old new : List (List Attempt)) (list : List Attempt) : Type 0 where
+  pub entering : list ≡ attempts kinds (first t (length old))
+  pub lists : new ≡ old ++ map (attempts kinds) (lists_of t (length old))
   pub short : width_of t (length old) ≤ MOST_MOVES
 
 -- Holds if, with each end replaced by `further`, `list` or one of the lists from `from` up to, but not including, `to` would

@@ -2,11 +2,12 @@
 -- start (`first`) and after each place (`after`); for each place, whether its set holds each letter (`members`); the kind of
 -- each letter (`kinds_of`); what is shown before the start and by each kind (`before`); what is shown by each letter and the
 -- end letter (`next`); and where a match may end (`ending`). An attempt is a test of a place's set, or an end, each with the
--- set of its guards; the places of a tree are its sets, numbered from left to right. A guard is an anchor or a word boundary;
--- codes of one kind look alike to all guards of the tree. The state of a place and a kind is the one after the test of the
--- place has succeeded on a letter of that kind. States are numbered in this order: the start, the states of places by place
--- and then by kind, the accepting state, the dead state. The end letter is read at the end of a text.
-use Rattle.std.specs.Prelude.{◌≡◌, ℕ, zero, suc, ◌+◌, ◌*◌, ◌-◌, ◌/◌, ◌%◌, ◌<◌, ◌≤◌, Bool, true, false, ◌==◌, ◌&&◌, nat_lt, List, [], ◌∷◌, ◌++◌, length, map, None, Some, All, slice_index_or, if◌then◌else◌}
+-- set of its guards; the places of a tree are its sets, numbered from left to right. A guard is an anchor, a word boundary or
+-- a lookaround of one character; codes of one kind look alike to all guards of the tree. The state of a place and a kind is
+-- the one after the test of the place has succeeded on a letter of that kind. States are numbered in this order: the start,
+-- the states of places by place and then by kind, the accepting state, the dead state. The end letter is read at the end of a
+-- text.
+use Rattle.std.specs.Prelude.{◌≡◌, ℕ, zero, suc, ◌+◌, ◌*◌, ◌-◌, ◌/◌, ◌%◌, ◌<◌, ◌≤◌, Bool, true, false, ◌==◌, ◌&&◌, nat_lt, List, [], ◌∷◌, ◌++◌, length, map, All, slice_index_or, if◌then◌else◌}
 use Rattle.std.specs.List.{flat_map, range_with_len}
 use Rattle.rl_ranges.specs.Letters.{LetterTable, letter_at}
 use Rattle.rl_ranges.specs.declared.letters.TheConstants.{MOST_LETTERS}
@@ -15,7 +16,7 @@ use Rattle.rl_syntax.specs.declared.re.Ending.TheVariants.{AtEnd, Anywhere}
 use Rattle.rl_syntax.specs.Tree.{Tree, sets_in}
 use Rattle.rl_syntax.specs.declared.limits.TheConstants.{MOST_NODES}
 use Rattle.rl_prio.specs.Items.{first}
-use Rattle.rl_prio.specs.internal.GuardSets.{met, shown, holding}
+use Rattle.rl_prio.specs.internal.GuardSets.{met, nothing_shown, code_shown, holding}
 use Rattle.rl_prio.specs.internal.Attempts.{attempts, guards_of, lists_of}
 use Rattle.rl_prio.specs.declared.build.guards.Guards.{Guards}
 use Rattle.rl_prio.specs.declared.build.guards.Shown.{Shown}
@@ -83,13 +84,13 @@ attempts_at p (suc r) = if nat_lt r (plan_place_states p) then slice_index_or p.
 -- What is shown before a state, as an entry of `before`: the first one for the start, and the one of its kind for the state of
 -- a place. If there is no such entry, no code is shown. For the accepting state and the dead state it means nothing.
 unfoldable pub before_at : Plan → ℕ → Shown
-before_at p zero = slice_index_or p.before.items 0 (shown None)
-before_at p (suc r) = slice_index_or p.before.items (suc (r % plan_kinds p)) (shown None)
+before_at p zero = slice_index_or p.before.items 0 nothing_shown
+before_at p (suc r) = slice_index_or p.before.items (suc (r % plan_kinds p)) nothing_shown
 
 -- The row of a list of attempts on a letter, given what is shown before the letter: the targets of those attempts whose guards
 -- all hold between that and the letter, in order.
 abbrev pub row_of : Plan → Shown → List Attempt → ℕ → List ℕ
-row_of p before l letter = moves_of p (holding before (slice_index_or p.next.items letter (shown None))) letter l
+row_of p before l letter = moves_of p (holding before (slice_index_or p.next.items letter nothing_shown)) letter l
 
 -- The row of a state and a letter, that is, the states to which the automaton moves: the targets of those of the state's
 -- attempts whose guards all hold before the letter, in order.
@@ -141,10 +142,10 @@ pub record AreRows (p : Plan) (rows : List (List ℕ)) : Type 0 where
 -- has what is shown by no code and then by the sample code of each kind, and `next` what is shown by the sample code of each
 -- letter and then by no code; and its ending is the given one.
 pub record IsPlan (p : Plan) (t : Tree) (letters kinds : LetterTable) (ending : Ending) : Type 0 where
-  pub same_first : p.first ≡ attempts (first t 0)
-  pub same_after : p.after.items ≡ map attempts (lists_of t 0)
+  pub same_first : p.first ≡ attempts kinds (first t 0)
+  pub same_after : p.after.items ≡ map (attempts kinds) (lists_of t 0)
   pub same_members : p.members.items ≡ map (λ set. map set letters.samples) (sets_in t)
   pub same_kinds : p.kinds_of.items ≡ map (letter_at kinds) letters.samples
-  pub same_before : p.before.items ≡ shown None ∷ map (λ c. shown (Some c)) kinds.samples
-  pub same_next : p.next.items ≡ map (λ c. shown (Some c)) letters.samples ++ shown None ∷ []
+  pub same_before : p.before.items ≡ nothing_shown ∷ map (code_shown kinds) kinds.samples
+  pub same_next : p.next.items ≡ map (code_shown kinds) letters.samples ++ nothing_shown ∷ []
   pub same_ending : p.ending ≡ ending

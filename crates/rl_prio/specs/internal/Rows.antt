@@ -13,7 +13,7 @@ abbrev pub rows_from : ℕ → List ℕ → List ℕ → List (List ℕ)
 rows_from start [] items = []
 rows_from start (end ∷ ends) items = slice_range items start end ∷ rows_from end ends items
 
--- The index at which the row with the given number, counted from 0, begins: `start` for the row 0, and otherwise the index in
+-- The index at which a row begins, given its number, counted from 0: `start` for the first row, and otherwise the index in
 -- `ends` at which the row before it ends, or 0 if there is no such row.
 abbrev pub start_at : ℕ → List ℕ → ℕ → ℕ
 start_at start ends zero = start

@@ -66,7 +66,7 @@ impl Attempt {
     fn is_unguarded(self) -> bool
         ensures { result ≡ is_unguarded self }
     {
-        self.guards().are_met(Guards::none())
+        self.guards().is_empty()
     }
 
     /// Whether the attempt is the test of a place.

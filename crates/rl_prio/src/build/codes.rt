@@ -1,11 +1,12 @@
 //! What the representative codes of the letters show.
 
-ghost use Rattle.std.specs.Prelude.{◌≡◌, ℕ, ◌<◌, ◌++◌, ◌∷◌, [], true, false, None, Some, All, map, OnOk, IfOk};
+ghost use Rattle.std.specs.Prelude.{◌≡◌, ℕ, ◌<◌, ◌≤◌, ◌++◌, ◌∷◌, [], true, false, All, length, map, OnOk, IfOk};
 ghost use Rattle.rl_ranges.specs.Codes.{has};
 ghost use Rattle.rl_ranges.specs.Letters.{letter_at};
+ghost use Rattle.rl_ranges.specs.declared.letters.TheConstants.{MOST_LETTERS};
 ghost use Rattle.rl_syntax.specs.Guards.{is_word};
 ghost use Rattle.rl_syntax.specs.Tree.{tree_of, sets_in};
-ghost use Rattle.rl_prio.specs.internal.GuardSets.{shown};
+ghost use Rattle.rl_prio.specs.internal.GuardSets.{nothing_shown, code_shown};
 
 use crate::build::guards::{Shown, Words};
 use rl_lists::{Items, OutOfMemory};
@@ -99,14 +100,21 @@ pub(crate) fn add_members(
 ///
 /// # Errors
 /// [`OutOfMemory`] if there is not enough memory for it.
-fn add_shown(words: &Words, codes: &[u32], list: &mut Vec<Shown>) -> Result<(), OutOfMemory>
+fn add_shown(
+    words: &Words,
+    kinds: &Letters,
+    codes: &[u32],
+    list: &mut Vec<Shown>,
+) -> Result<(), OutOfMemory>
     requires all { (c : ℕ) → has words.now.all c ≡ is_word false c }
     requires ascii { (c : ℕ) → has words.now.ascii c ≡ is_word true c }
+    requires few { length kinds.now.samples ≤ MOST_LETTERS }
+    requires codes { All (λ c. c < kinds.now.codes) codes.now }
     ensures { OnOk result
-        (list.new.items ≡ list.old.items ++ map (λ c. shown (Some c)) codes.now) }
+        (list.new.items ≡ list.old.items ++ map (code_shown kinds.now) codes.now) }
 {
     for code in codes {
-        list.push(words.shown(*code))?;
+        list.push(words.shown(kinds, *code))?;
     }
     Ok(())
 }
@@ -115,15 +123,22 @@ fn add_shown(words: &Words, codes: &[u32], list: &mut Vec<Shown>) -> Result<(), 
 ///
 /// # Errors
 /// [`OutOfMemory`] if there is not enough memory for it.
-fn shown_before(alloc: Global, words: &Words, codes: &[u32]) -> Result<Vec<Shown>, OutOfMemory>
+fn shown_before(
+    alloc: Global,
+    words: &Words,
+    kinds: &Letters,
+    codes: &[u32],
+) -> Result<Vec<Shown>, OutOfMemory>
     requires all { (c : ℕ) → has words.now.all c ≡ is_word false c }
     requires ascii { (c : ℕ) → has words.now.ascii c ≡ is_word true c }
+    requires few { length kinds.now.samples ≤ MOST_LETTERS }
+    requires codes { All (λ c. c < kinds.now.codes) codes.now }
     ensures { IfOk result
-        (λ list. list.items ≡ shown None ∷ map (λ c. shown (Some c)) codes.now) }
+        (λ list. list.items ≡ nothing_shown ∷ map (code_shown kinds.now) codes.now) }
 {
     let mut list = Vec::with_capacity(alloc, codes.len().saturating_add(1))?;
     list.push(Shown::nothing())?;
-    add_shown(words, codes, &mut list)?;
+    add_shown(words, kinds, codes, &mut list)?;
     Ok(list)
 }
 
@@ -131,19 +146,27 @@ fn shown_before(alloc: Global, words: &Words, codes: &[u32]) -> Result<Vec<Shown
 ///
 /// # Errors
 /// [`OutOfMemory`] if there is not enough memory for it.
-fn shown_next(alloc: Global, words: &Words, codes: &[u32]) -> Result<Vec<Shown>, OutOfMemory>
+fn shown_next(
+    alloc: Global,
+    words: &Words,
+    kinds: &Letters,
+    codes: &[u32],
+) -> Result<Vec<Shown>, OutOfMemory>
     requires all { (c : ℕ) → has words.now.all c ≡ is_word false c }
     requires ascii { (c : ℕ) → has words.now.ascii c ≡ is_word true c }
+    requires few { length kinds.now.samples ≤ MOST_LETTERS }
+    requires codes { All (λ c. c < kinds.now.codes) codes.now }
     ensures { IfOk result
-        (λ list. list.items ≡ map (λ c. shown (Some c)) codes.now ++ shown None ∷ []) }
+        (λ list. list.items ≡ map (code_shown kinds.now) codes.now ++ nothing_shown ∷ []) }
 {
     let mut list = Vec::with_capacity(alloc, codes.len().saturating_add(1))?;
-    add_shown(words, codes, &mut list)?;
+    add_shown(words, kinds, codes, &mut list)?;
     list.push(Shown::nothing())?;
     Ok(list)
 }
 
-/// Returns what is shown before the start and by each kind, and what is shown by each code and by the end letter.
+/// Returns what is shown before the start and by each kind, and what is shown by each code and by the end letter. There must be
+/// at most [`MOST_LETTERS`](rl_ranges::MOST_LETTERS) kinds.
 ///
 /// # Errors
 /// [`OutOfMemory`] if there is not enough memory for it.
@@ -152,14 +175,17 @@ pub(crate) fn shown_around(
     kinds: &Letters,
     codes: &[u32],
 ) -> Result<(Vec<Shown>, Vec<Shown>), OutOfMemory>
+    requires few { length kinds.now.samples ≤ MOST_LETTERS }
+    requires kind_codes { All (λ c. c < kinds.now.codes) kinds.now.samples }
+    requires codes { All (λ c. c < kinds.now.codes) codes.now }
     ensures before { IfOk result
-        (λ both. both.0.items ≡ shown None ∷ map (λ c. shown (Some c)) kinds.now.samples) }
+        (λ both. both.0.items ≡ nothing_shown ∷ map (code_shown kinds.now) kinds.now.samples) }
     ensures next { IfOk result
-        (λ both. both.1.items ≡ map (λ c. shown (Some c)) codes.now ++ shown None ∷ []) }
+        (λ both. both.1.items ≡ map (code_shown kinds.now) codes.now ++ nothing_shown ∷ []) }
 {
     let kind_codes = samples(alloc, kinds)?;
     let words = Words::new(alloc)?;
-    let before = shown_before(alloc, &words, &kind_codes)?;
-    let next = shown_next(alloc, &words, codes)?;
+    let before = shown_before(alloc, &words, kinds, &kind_codes)?;
+    let next = shown_next(alloc, &words, kinds, codes)?;
     Ok((before, next))
 }

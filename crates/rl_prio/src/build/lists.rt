@@ -1,6 +1,7 @@
 //! The item lists of a tree.
 
 ghost use Rattle.std.specs.Prelude.{◌≡◌, ℕ, ◌<◌, ◌≤◌, ◌+◌, ◌++◌, ◌⊎◌, ◌∷◌, [], List, length, IfOk, IfErr, OnOk};
+ghost use Rattle.rl_ranges.specs.declared.letters.TheConstants.{MOST_LETTERS};
 ghost use Rattle.rl_syntax.specs.Tree.{tree_of};
 ghost use Rattle.rl_syntax.specs.Run.{one_more};
 ghost use Rattle.rl_syntax.specs.declared.limits.TheConstants.{MOST_MOVES};
@@ -11,6 +12,7 @@ use crate::build::attempts::{
     Attempt, AttemptList, ListError, put_behind, replace_ends, single, with_ends_replaced,
 };
 use crate::build::guards::Guards;
+use rl_ranges::Letters;
 use rl_syntax::Re;
 use std::alloc::Global;
 
@@ -123,7 +125,8 @@ fn repeated(
     Ok(all)
 }
 
-/// Adds the list of each place of the tree, and returns the list of entering the tree.
+/// Adds the list of each place of the tree, and returns the list of entering the tree. `kinds` are the kinds of the whole tree,
+/// of which there must be at most [`MOST_LETTERS`](rl_ranges::MOST_LETTERS).
 ///
 /// # Errors
 /// [`ListError::TooLong`] if a list would have more than [`MOST_MOVES`] attempts; [`ListError::OutOfMemory`] if there is not
@@ -131,31 +134,33 @@ fn repeated(
 pub(crate) fn enter(
     alloc: Global,
     tree: &Re,
+    kinds: &Letters,
     lists: &mut Vec<AttemptList>,
 ) -> Result<AttemptList, ListError>
-    ensures ok { IfOk result (λ l. AreEntered (tree_of tree.now) lists.old.items lists.new.items l) }
+    requires { length kinds.now.samples ≤ MOST_LETTERS }
+    ensures ok { IfOk result (λ l. AreEntered kinds.now (tree_of tree.now) lists.old.items lists.new.items l) }
     ensures moves { IfErr result (λ e. e ≡ ListError.TooLong
         → MOST_MOVES < width_of (tree_of tree.now) (length lists.old.items)) }
 {
     match tree {
         Re::Empty => single(alloc, Attempt::End(Guards::none())),
         Re::One(_) => enter_place(alloc, lists),
-        Re::Guard(guard) => single(alloc, Attempt::End(Guards::only(*guard))),
+        Re::Guard(guard) => single(alloc, Attempt::End(Guards::only(guard, kinds))),
         Re::Both(first, second) => {
             let from = lists.len();
-            let list = enter(alloc, first, lists)?;
+            let list = enter(alloc, first, kinds, lists)?;
             let to = lists.len();
-            let further = enter(alloc, second, lists)?;
+            let further = enter(alloc, second, kinds, lists)?;
             in_turn(alloc, lists, from, to, list.as_slice(), further.as_slice())
         }
         Re::Either(first, second) => {
-            let list = enter(alloc, first, lists)?;
-            let others = enter(alloc, second, lists)?;
+            let list = enter(alloc, first, kinds, lists)?;
+            let others = enter(alloc, second, kinds, lists)?;
             alternatives(list, others.as_slice())
         }
         Re::Many(body, greedy) => {
             let from = lists.len();
-            let list = enter(alloc, body, lists)?;
+            let list = enter(alloc, body, kinds, lists)?;
             repeated(alloc, lists, from, list, *greedy)
         }
     }

@@ -6,7 +6,7 @@ ghost use Rattle.rl_syntax.specs.declared.limits.TheConstants.{MOST_MOVES, MOST_
 ghost use Rattle.rl_ranges.specs.Codes.{has};
 ghost use Rattle.rl_ranges.specs.Letters.{letter_at};
 ghost use Rattle.rl_ranges.specs.declared.letters.TheConstants.{MOST_LETTERS};
-ghost use Rattle.rl_prio.specs.internal.GuardSets.{shown};
+ghost use Rattle.rl_prio.specs.internal.GuardSets.{nothing_shown};
 ghost use Rattle.rl_prio.specs.internal.Attempts.{width_of, AreEntered};
 ghost use Rattle.rl_prio.specs.internal.Plans.{plan_letters, plan_kinds, plan_place_states, plan_states, holds_at, test_goes, may_end, end_goes, target_of, move_of, moves_of, attempts_at, before_at, row_of, each_letter, rows_of_state, IsPlaced, IsSound, AreRows, IsPlan};
 
@@ -40,8 +40,9 @@ pub(crate) struct Plan {
 }
 
 impl Plan {
-    /// Makes the plan of a tree and an ending, over the given letters and kinds. The letters' sample codes must be less than
-    /// the number of codes of `kinds`.
+    /// Makes the plan of a tree and an ending, over the given letters and kinds. There must be at most
+    /// [`MOST_LETTERS`](rl_ranges::MOST_LETTERS) kinds, and the sample codes of letters and kinds must be less than the number
+    /// of codes of `kinds`.
     ///
     /// # Errors
     /// [`ListError::TooLong`] only if a list of items would have more than [`MOST_MOVES`] items; [`ListError::OutOfMemory`] if
@@ -53,14 +54,16 @@ impl Plan {
         kinds: &Letters,
         ending: Ending,
     ) -> Result<Plan, ListError>
-        requires { All (λ c. c < kinds.now.codes) letters.now.samples }
+        requires few { length kinds.now.samples ≤ MOST_LETTERS }
+        requires kind_codes { All (λ c. c < kinds.now.codes) kinds.now.samples }
+        requires codes { All (λ c. c < kinds.now.codes) letters.now.samples }
         ensures ok { IfOk result (λ p. IsPlan p (tree_of tree.now) letters.now kinds.now ending) }
         ensures short { OnOk result (width_of (tree_of tree.now) 0 ≤ MOST_MOVES) }
         ensures too_long { IfErr result (λ e. e ≡ ListError.TooLong
             → MOST_MOVES < width_of (tree_of tree.now) 0) }
     {
         let mut after = Vec::new(alloc);
-        let first = enter(alloc, tree, &mut after)?;
+        let first = enter(alloc, tree, kinds, &mut after)?;
         let plan = Plan::with_lists(alloc, tree, letters, kinds, ending, first, after)?;
         Ok(plan)
     }
@@ -78,8 +81,10 @@ impl Plan {
         first: AttemptList,
         after: Vec<AttemptList>,
     ) -> Result<Plan, OutOfMemory>
+        requires few { length kinds.now.samples ≤ MOST_LETTERS }
+        requires kind_codes { All (λ c. c < kinds.now.codes) kinds.now.samples }
         requires codes { All (λ c. c < kinds.now.codes) letters.now.samples }
-        requires entered { AreEntered (tree_of tree.now) [] after.items first }
+        requires entered { AreEntered kinds.now (tree_of tree.now) [] after.items first }
         ensures { IfOk result (λ p. IsPlan p (tree_of tree.now) letters.now kinds.now ending) }
     {
         let codes = samples(alloc, letters)?;

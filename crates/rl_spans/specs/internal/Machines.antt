@@ -1,6 +1,6 @@
 -- Both sides of a comparison, and what is checked of a pair of their thread lists. A pair is kept if its step on each code
 -- leads to a pair of the list again, up to the names of places, and if both sides agree wherever a match ends.
-use Rattle.std.specs.Prelude.{◌≡◌, ℕ, ◌<◌, Bool, true, false, ◌||◌, List, length, Option, None, Some, slice_index_or, Contains}
+use Rattle.std.specs.Prelude.{◌≡◌, ℕ, ◌<◌, Bool, true, false, ◌||◌, List, length, map, Option, None, Some, slice_index_or, Contains}
 use Rattle.rl_ranges.specs.Codes.{has}
 use Rattle.rl_syntax.specs.Guards.{is_word}
 use Rattle.rl_marks.specs.Hits.{Matcher}
@@ -10,15 +10,17 @@ use Rattle.rl_marks.specs.internal.Pairs.{begin, stops_at, tells_last, AgreesBef
 use Rattle.rl_marks.specs.internal.Seeking.{IsAsked}
 use Rattle.rl_marks.specs.internal.PairLetters.{StepsTo}
 use Rattle.rl_spans.specs.declared.machine.Machine.{Machine}
-use Rattle.rl_spans.specs.internal.Sides.{IsSide}
+use Rattle.rl_spans.specs.internal.Looks.{looks_of_both}
+use Rattle.rl_spans.specs.internal.Sides.{IsSide, matcher_of}
 
--- Both sides know the items of their states and the tests of the machine's codes, and `words` has the word characters of
--- guards.
+-- Both sides know the items of their states and the tests of the machine's codes, `words` has the word characters of guards,
+-- and `looks` the sets of the lookarounds.
 pub record IsMachine (m : Machine) : Type 0 where
   pub first : IsSide m.codes m.first
   pub second : IsSide m.codes m.second
   pub all : (c : ℕ) → has m.words.all c ≡ is_word false c
   pub ascii : (c : ℕ) → has m.words.ascii c ≡ is_word true c
+  pub looks : map has m.looks ≡ looks_of_both (matcher_of m.first) (matcher_of m.second)
 
 -- The step of the pair `p` on the code is one of `pairs`, up to the names of places. `accepts` says whether a match may end at
 -- the place of the pair.

@@ -1,9 +1,10 @@
--- What guards see of a code, and what threads try by it. Anchors and word boundaries are guards.
-use Rattle.std.specs.Prelude.{◌≡◌, ℕ, suc, slice_index_or, Bool, true, false, not, ◌||◌, ◌&&◌, List, [], ◌∷◌, ◌++◌, if◌then◌else◌, Option, is_none}
+-- What guards see of a code, and what threads try by it. Guards are anchors, word boundaries and lookarounds of one character.
+use Rattle.std.specs.Prelude.{◌≡◌, ℕ, suc, slice_index_or, Bool, true, false, not, ◌||◌, ◌&&◌, List, [], ◌∷◌, ◌++◌, if◌then◌else◌, is_none}
 use Rattle.std.proofs.Math.Bool.{beq}
+use Rattle.rl_ranges.specs.Codes.{has}
 use Rattle.rl_syntax.specs.declared.anchors.Guard.{Guard}
-use Rattle.rl_syntax.specs.declared.anchors.Guard.TheVariants.{Start, LineStart, LineEnd, TextEnd, Word, NotWord}
-use Rattle.rl_syntax.specs.Guards.{is_in, is_line_feed, is_word}
+use Rattle.rl_syntax.specs.declared.anchors.Guard.TheVariants.{Start, LineStart, LineEnd, TextEnd, Word, NotWord, Look}
+use Rattle.rl_syntax.specs.Guards.{is_in, is_line_feed, is_word, sees}
 use Rattle.rl_marks.specs.internal.MarkItems.{performed}
 use Rattle.rl_marks.specs.internal.Threads.{thread}
 use Rattle.rl_spans.specs.declared.shown.Shown.{Shown}
@@ -16,12 +17,11 @@ use Rattle.rl_marks.specs.declared.threads.Act.TheVariants.{Check as check, Open
 use Rattle.rl_marks.specs.declared.threads.MarkItem.TheVariants.{Test as test_at, Pass as pass}
 use Rattle.rl_marks.specs.declared.threads.Try.TheVariants.{Goes as goes, Stops as stops}
 
--- `s` is what guards see of the code, if `o` has one, and otherwise of the start or the end of the text.
-pub record IsShown (o : Option ℕ) (s : Shown) : Type 0 where
-  pub none : s.none ≡ is_none o
-  pub line_feed : s.line_feed ≡ is_in is_line_feed o
-  pub word : s.word ≡ is_in (is_word false) o
-  pub ascii_word : s.ascii_word ≡ is_in (is_word true) o
+-- `s` is what guards see of its code, if it has one, and otherwise of the start or the end of the text.
+pub record IsShown (s : Shown) : Type 0 where
+  pub line_feed : s.line_feed ≡ is_in is_line_feed s.code
+  pub word : s.word ≡ is_in (is_word false) s.code
+  pub ascii_word : s.ascii_word ≡ is_in (is_word true) s.code
 
 -- Whether what guards see is a word character. The flag says that only ASCII characters count.
 abbrev pub sees_word : Bool → Shown → Bool
@@ -30,12 +30,13 @@ sees_word false s = s.word
 
 -- Whether the guard holds at a place, by what guards see of the code before the place and of the next one.
 abbrev pub met : Guard → Shown → Shown → Bool
-met Start before next = before.none
-met LineStart before next = before.none || before.line_feed
-met LineEnd before next = next.none || next.line_feed
-met TextEnd before next = next.none
+met Start before next = is_none before.code
+met LineStart before next = is_none before.code || before.line_feed
+met LineEnd before next = is_none next.code || next.line_feed
+met TextEnd before next = is_none next.code
 met (Word ascii) before next = not (beq (sees_word ascii before) (sees_word ascii next))
 met (NotWord ascii) before next = beq (sees_word ascii before) (sees_word ascii next)
+met (Look behind negated ranges) before next = sees negated (has ranges) (if behind then before.code else next.code)
 
 -- Whether each guard among the acts holds at a place. The other acts, which open and close groups, are passed over.
 abbrev pub all_met : List Act → Shown → Shown → Bool

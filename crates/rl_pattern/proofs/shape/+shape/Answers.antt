@@ -8,10 +8,10 @@ use Rattle.rl_syntax.specs.PatTree.{pat_of}
 use Rattle.rl_syntax.specs.Counting.{branch_tree}
 use Rattle.rl_pattern.specs.Tree as t
 use Rattle.rl_pattern.specs.internal.Views.{node_of, branch_of}
-use Rattle.rl_pattern.specs.Shape.{shape_in, shapes_in, branch_shapes_in, is_greedy, group_shape, look_shape}
-use Rattle.rl_pattern.specs.Found.{reads_look, is_end}
-use Rattle.rl_pattern.specs.Profile.{Profile, before_end, for_item}
-use Rattle.rl_pattern.proofs.Layers.{node_of-repeat, node_of-group, branch_of-fields}
+use Rattle.rl_pattern.specs.Shape.{shape_in, shapes_in, branch_shapes_in}
+use Rattle.rl_pattern.specs.Found.{is_end}
+use Rattle.rl_pattern.specs.Profile.{Profile, for_item}
+use Rattle.rl_pattern.proofs.Layers.{branch_of-fields}
 use Rattle.rl_pattern.proofs.LeafLaws.{answered}
 use Rattle.rl_pattern.proofs.Looks.{ends_at}
 use Rattle.rl_pattern.specs.declared.tree.SyntaxNode.{SyntaxNode}

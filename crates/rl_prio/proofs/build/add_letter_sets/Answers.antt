@@ -10,5 +10,5 @@ returns-clause-inside c =
     λ u over were.
     let t = tree_of c.args.tree.now in
     added-inside u c.args.sets.now.items c.add_guard_sets.new.sets.items (all_sets t)
-    (c.in_ok-add_guard_sets.ensures ∙ ap (λ l. l ++ guard_sets t) c.in_ok-add_sets.ensures ∙ append_assoc (map has c.args.sets.now.items) (sets_in t) (guard_sets t))
+    (c.in_ok-add_guard_sets.ensures.sets ∙ ap (λ l. l ++ guard_sets t) c.in_ok-add_sets.ensures ∙ append_assoc (map has c.args.sets.now.items) (sets_in t) (guard_sets t))
     (all_sets-lie u t over) were

@@ -16,11 +16,11 @@ loop-index-preserved c =
     let i = c.loop-index.index in
     let code = c.code_at-code.result in
     let accepts = c.is_hit-accepts.result in
-    let before = c.seen-before.result.code in
+    let before = c.shown-before.result.code in
     let same : i + 1 ≡ suc i = omega arith in
     record {
       found = run-step m w hit i (i + 1) code c.code_at-code.ensures same accepts c.is_hit-accepts.ensures
-          before (c.seen-before.ensures.code ∙ c.code_before-previous.ensures) c.loop-index.threads c.in_ok-step.step.threads
+          before (c.shown-before.ensures.code ∙ c.code_before-previous.ensures) c.loop-index.threads c.in_ok-step.step.threads
           (c.in_ok-step.ensures.threads ∙ ap₂ (λ p l. moved m accepts before code p l) c.in_ok-place.ensures.place c.as_slice.ensures)
           c.in_ok-step.step.stop
           (c.in_ok-step.ensures.stop ∙ ap₂ (λ p l. halted m accepts before (Some code) p l) c.in_ok-place.ensures.place c.as_slice.ensures)
@@ -44,14 +44,14 @@ returns-clause-found c =
     let hit = is_hit_from c.args.side.now.ending c.args.advance w c.args.start in
     let size = length w in
     let stops = c.is_hit-stops.result in
-    let behind = c.seen-behind.result.code in
+    let behind = c.shown-behind.result.code in
     let whole = found_at c.args.side.now w c.args.advance c.args.start in
     let at : c.loop-index.index ≡ size = omega arith in
     run-end m w hit size (get-past w size refl) stops c.is_hit-stops.ensures
-    behind (c.seen-behind.ensures.code ∙ c.code_before-final_code.ensures) c.loop-index.threads c.in_ok-stop.stop
+    behind (c.shown-behind.ensures.code ∙ c.code_before-final_code.ensures) c.loop-index.threads c.in_ok-stop.stop
     (c.in_ok-stop.ensures
     ∙ ap (stopped stops) (c.as_slice-3.ensures ∙ c.in_ok-tries.ensures
-    ∙ ap (λ n. spread m behind n c.in_ok-last.last c.as_slice-2.result.now) c.seen-end.ensures.code
+    ∙ ap (λ n. spread m behind n c.in_ok-last.last c.as_slice-2.result.now) c.shown-end.ensures.code
     ∙ ap₂ (λ p l. spread m behind None p l) c.in_ok-last.ensures.place c.as_slice-2.ensures))
     (ended_of c.loop-index.found) (ended_of c.later.result)
     (c.later.ensures ∙ ap (λ p. later_of p c.in_ok-stop.stop (ended_of c.loop-index.found)) c.in_ok-last.ensures.place)

@@ -2,10 +2,10 @@ use Rattle.std.proofs.Common.{◌∙◌}
 use Rattle.rl_spans.proofs.ShownLaws.{shown-none, shown-some}
 use Rattle.rl_spans.proofs.shown.Words.shown.Goals as goal
 
-pub returns-in-None : goal.returns-in-None
-returns-in-None c = shown-none c.args.code c.in-None.is
+pub returns-in-None-clause-shown : goal.returns-in-None-clause-shown
+returns-in-None-clause-shown c = shown-none
 
-pub returns-in-Some : goal.returns-in-Some
-returns-in-Some c =
-    shown-some c.args.code c.in-Some.code c.contains.result c.contains-in-Some.result c.in-Some.is (c.contains.ensures ∙ c.requires.all c.in-Some.code)
+pub returns-in-Some-clause-shown : goal.returns-in-Some-clause-shown
+returns-in-Some-clause-shown c =
+    shown-some c.in-Some.code c.contains.result c.contains-in-Some.result (c.contains.ensures ∙ c.requires.all c.in-Some.code)
     (c.contains-in-Some.ensures ∙ c.requires.ascii c.in-Some.code)
