@@ -23,8 +23,8 @@
 //! # What is proved
 //!
 //! Each line of the input has a right reply, and nothing else is written. A pattern is refused exactly if the grammar of its
-//! question refuses it. The cost of a family is that of its string. Nothing is told beside an answer if `relint` reads the
-//! patterns. Verdicts, comparisons, suggestions, costs and matches are right as the crates define it that find them. `same` is
+//! question refuses it. The cost of a family is that of its string. Something is told beside an answer only if `relint` refuses one
+//! of the patterns. Verdicts, comparisons, suggestions, costs and matches are right as the crates define it that find them. `same` is
 //! answered only if both patterns find the same in every text, and `differ` only with a text on which they are seen to find
 //! different matches; `empty` is false there only if matches that aren't empty were compared, and nothing is said of whether
 //! the patterns differ if empty ones count too. A limit is named only if it is exceeded. The bounds of an undecided search are all that its
