@@ -140,7 +140,8 @@ fn beyond_in(
 ) -> Result<Beyond, OutOfMemory>
     ensures { IfOk result (IsBeyond grammar terms word.now) }
 {
-    if !is_refused(alloc, word, terms, Grammar::Profile)? {
+    let refused = is_refused(alloc, word, terms, Grammar::Profile)?;
+    if !refused {
         return Ok(nothing_beyond());
     }
     beyond_profile(alloc, word, terms, grammar)

@@ -1,15 +1,13 @@
-use Rattle.std.proofs.Common.{subst}
 use Rattle.rl_ask.specs.Grammars.{grammar_in}
-use Rattle.rl_ask.specs.internal.Reads.{IsPatternRead}
 use Rattle.rl_ask.specs.Patterns.{refused}
-use Rattle.rl_ask.proofs.AnswerLemmas.{read-so}
+use Rattle.rl_ask.proofs.AnswerLemmas.{read-in, read-so}
 use Rattle.rl_ask.specs.Costs.{IsCost}
 use Rattle.rl_ask.proofs.cost.read_answer.Goals as goal
 
 pub returns-in-Refused : goal.returns-in-Refused
 returns-in-Refused c =
-    refused (subst (IsPatternRead (grammar_in c.args.mode) c.args.terms c.args.pattern.now) c.in-Refused.is c.in_ok-fault.ensures)
+    refused (read-in c.grammar_in.result (grammar_in c.args.mode) c.args.terms c.args.pattern.now _ _ c.grammar_in.ensures c.in-Refused.is c.in_ok-fault.ensures)
 
 pub returns-in-Read : goal.returns-in-Read
 returns-in-Read c =
-    read-so c.pattern_answer-answer.result (grammar_in c.args.mode) c.args.terms c.args.pattern.now (IsCost c.args.mode c.args.text.now) _ (subst (IsPatternRead (grammar_in c.args.mode) c.args.terms c.args.pattern.now) c.in-Read.is c.in_ok-fault.ensures) c.pattern_answer-answer.ensures
+    read-so c.pattern_answer-answer.result (grammar_in c.args.mode) c.args.terms c.args.pattern.now (IsCost c.args.mode c.args.text.now) _ (read-in c.grammar_in.result (grammar_in c.args.mode) c.args.terms c.args.pattern.now _ _ c.grammar_in.ensures c.in-Read.is c.in_ok-fault.ensures) c.pattern_answer-answer.ensures
