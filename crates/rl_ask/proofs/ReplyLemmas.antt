@@ -7,8 +7,12 @@ use Rattle.serde_json.proofs.OnLiterals.{serde_json_on_literals}
 use Rattle.serde_json.specs.Read.{read}
 use Rattle.rl_asked.specs.Words.{Text}
 use Rattle.rl_ask.specs.Lines.{IsReply, IsReplyTo, mistaken, answered, of_value, is_over}
-use Rattle.rl_ask.specs.Document.{error_text}
-use Rattle.rl_asked.specs.Questions.{asked, message_of}
+use Rattle.rl_ask.specs.Answers.{IsRight}
+use Rattle.rl_ask.specs.Beyond.{IsTold}
+use Rattle.rl_ask.specs.Document.{error_text, reply_text}
+use Rattle.rl_ask.specs.declared.answer.Answer.{Answer}
+use Rattle.rl_ask.specs.declared.beyond.Beyond.{Beyond}
+use Rattle.rl_asked.specs.Questions.{Asked, asked, message_of}
 use Rattle.rl_asked.specs.Reading.{question_read}
 use Rattle.rl_asked.specs.declared.mistake.Mistake.{Mistake}
 use Rattle.rl_asked.specs.declared.question.Question.{Question}
@@ -67,3 +71,9 @@ rose-later a b c lower rose = omega arith
 pub memory-text : codes "{\"answer\":\"error\",\"message\":\"out of memory\"}\n" ≡ error_text (codes "out of memory")
 unfolding serde_json_on_literals
 memory-text = refl
+
+-- The line of a right answer, with what is told beside it.
+pub told-well : {E : Type 0} (r : Result Text E) (q : Asked) (a : Answer) (told : Beyond) → IsRight q a → IsTold q a told
+    → IfOk r (λ line. line ≡ reply_text q told a) → IfOk r (AnswersWell q)
+told-well (Ok line) q a told right beside is = record { found = a; beyond = told; right = right; told = beside; is = is }
+told-well (Err e) q a told right beside is = tt

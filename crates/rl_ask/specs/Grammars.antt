@@ -6,10 +6,11 @@ use Rattle.rl_ranges.specs.declared.universe.Universe.{Universe}
 use Rattle.rl_syntax.specs.declared.pattern.Pattern.{Pattern}
 use Rattle.rl_syntax.specs.declared.re.Mode.{Mode}
 use Rattle.rl_syntax.specs.declared.re.Mode.TheVariants.{Fullmatch, Match, Search}
-use Rattle.rl_pattern.specs.Beyond.{IsParsedBeyond, Refused, Dropped, LastLine}
+use Rattle.rl_pattern.specs.Beyond.{IsParsedBeyond}
 use Rattle.rl_pattern.specs.Parsed.{IsParsed}
 use Rattle.rl_pattern.specs.declared.flags.Flags.{Flags}
 use Rattle.rl_pattern.specs.declared.parsing.PatError.{PatError}
+use Rattle.rl_pattern.specs.declared.profile.Dollar.TheVariants.{Refused, Dropped, LastLine}
 use Rattle.rl_ask.specs.declared.grammar.Grammar.{Grammar}
 use Rattle.rl_ask.specs.declared.grammar.Grammar.TheVariants.{Profile, Wider}
 

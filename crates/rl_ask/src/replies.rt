@@ -62,7 +62,7 @@ pub(crate) enum RepliesEnd {
 
 /// Returns the line of a right answer to a question, with what is told of the question's patterns beside it.
 fn told_line(alloc: Global, question: Question, answer: &Answer) -> Result<Bytes, OutOfMemory>
-    requires right { IsRight (asked question) answer.now }
+    requires { IsRight (asked question) answer.now }
     ensures { IfOk result (AnswersWell (asked question.entry)) }
 {
     let told = beyond_told(alloc, question, answer)?;
