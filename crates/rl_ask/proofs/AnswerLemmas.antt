@@ -68,7 +68,7 @@ is-read grammar terms word w p same text parsed = record {
 
 -- What is read of a text, by another name of the grammar and of what is read.
 pub read-in : (g h : Grammar) (terms : Terms) (word : Text) (r s : PatternRead) → g ≡ h → r ≡ s → IsPatternRead g terms word r → IsPatternRead h terms word s
-read-in g h terms word r s same is read = subst (IsPatternRead h terms word) is (subst (λ x. IsPatternRead x terms word r) same read)
+read-in g h terms word r s same is known = subst (IsPatternRead h terms word) is (subst (λ x. IsPatternRead x terms word r) same known)
 
 -- The universe of a pattern is that of the terms.
 pub universe-read : (grammar : Grammar) (terms : Terms) (word : Text) (p : Pattern) → IsReadAs grammar terms word p → universe_of p ≡ terms.universe

@@ -10,9 +10,11 @@ use Rattle.rl_ask.proofs.FamilyLemmas.{family-text}
 use Rattle.rl_ask.proofs.cost.family_answer.Goals as goal
 
 pub read_answer-answer-requires : goal.read_answer-answer-requires
-read_answer-answer-requires c =
-    subst (IsText c.args.terms.universe) (sym c.in-Ok.ensures.text)
-    (family-text c.args.terms.universe c.args.k (texts_of (items_view c.args.heads.now)) (texts_of (items_view c.args.pumps.now)) c.requires.heads c.requires.pumps)
+read_answer-answer-requires c = record {
+  text =
+      subst (IsText c.args.terms.universe) (sym c.in-Ok.ensures.text)
+      (family-text c.args.terms.universe c.args.k (texts_of (items_view c.args.heads.now)) (texts_of (items_view c.args.pumps.now)) c.requires.heads c.requires.pumps);
+}
 
 pub returns-in-Ok : goal.returns-in-Ok
 returns-in-Ok c =
