@@ -68,7 +68,7 @@ def beyond(verdict: Verdict = EXPONENTIAL, **more: Any) -> Finding:
     classes, line = {"search": replace(verdict, beyond=("lookaround",))}, 're.search(r"(?!x)(a|a)*b", s)'
     entry = Entry("app.py", "refused", Place(7, 11), "search", cause="lookaround", fault=Place(7, 13))
     given = dict(entry=entry, known=BEYOND, state=NEW, site=site("(?!x)(a|a)*b", 200), by_mode=classes,
-                 growth=Growth(13, 30, 2684354560, True, 2.0), lines=((7, line),))
+                 growth=Growth(13, 30, 2684354560, 2.0), lines=((7, line),))
     return Finding(**{**given, **more})  # type: ignore[arg-type]
 
 
