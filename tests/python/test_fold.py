@@ -546,6 +546,7 @@ class Wrong(unittest.TestCase):
         ("pkg/m.py", P, {"x.py": "import pkg.m\ndel pkg.m.P\n"}),
         ("pkg/m.py", P, {"x.py": "from pkg import m\nsetattr(m, 'P', 'b')\n"}),
         ("pkg/m.py", P, {"x.py": "from pkg import m\ndef f(n):\n    setattr(m, n, 'b')\n"}),
+        ("pkg/m.py", P.replace("P", "Ping"), {"x.py": "from pkg import m\nsetattr(m, 'Pi' 'ng', 'b')\n"}),
         ("pkg/m.py", P, {"x.py": "from pkg import m\nvars(m)['P'] = 'b'\n"}),
         ("pkg/m.py", P, {"x.py": "from pkg import m\nm.__dict__['P'] = 'b'\n"}),
         ("pkg/m.py", P, {"x.py": "from pkg import m\nm.__dict__.update(P='b')\n"}),

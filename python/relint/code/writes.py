@@ -30,7 +30,7 @@ GIVERS = ("getattr", "attrgetter", "globals", "vars", "locals", "eval", "exec", 
 DYNAMIC = (b"setattr", b"delattr", b"vars", b"__dict__", b"type(")
 WRITING = (*DYNAMIC, b"getattr", b"attrgetter", b"getmembers", b"globals", b"locals", b"modules", b"patch", b"eval", b"type",
            b"new_class", b"make_dataclass")
-CONSTANT = re.compile(rb"etattr\s*\(\s*[\w.\[\]]+\s*,\s*[\"']\w+[\"']")
+CONSTANT = re.compile(rb"etattr\s*\(\s*[\w.\[\]]+\s*,\s*[\"']\w+[\"']\s*[,)]")
 VARS = re.compile(rb"vars\s*\(")
 # Up to so many names are looked for one by one; for more, the bytes are split into words, of which these are the letters.
 FEW = 12
