@@ -40,6 +40,10 @@ FIXED: List[Tuple[Text, How, Text]] = [
 ]
 
 
+# Without the last resort: runs that a look ends, which are fixes of their own.
+WITHOUT_LOOKS = mock.patch.object(search.Search, "stop_runs", lambda self: None)
+
+
 def found(pattern: Text, how: How, seconds: float = 30.0) -> List[search.Cure]:
     return offers.cures_of(pattern, how, ASKER, time.monotonic() + seconds)
 
@@ -54,9 +58,10 @@ class Found(unittest.TestCase):
                 self.assertLessEqual(cures[0].top, 2)
 
     def test_what_differs_is_said_in_a_clause(self) -> None:
-        said = {it.differs for pattern, how in (
-            (r'"(\\.|[^"\\]+)*"', ONE["search"]), (r".*<b>(.*)</b>.*", How(frozenset(["search"]), 0, True)),
-            (r"https?://(.+)\.ddb\.(.+)\.com", ONE["search"])) for it in found(pattern, how)}
+        with WITHOUT_LOOKS:
+            said = {it.differs for pattern, how in (
+                (r'"(\\.|[^"\\]+)*"', ONE["search"]), (r".*<b>(.*)</b>.*", How(frozenset(["search"]), 0, True)),
+                (r"https?://(.+)\.ddb\.(.+)\.com", ONE["search"])) for it in found(pattern, how)}
         self.assertTrue(any(it.startswith("same texts, but group 1 holds ") for it in said), said)
         self.assertTrue(any(it == "the same, unless the call is given a position" for it in said), said)
         self.assertTrue(any(it.startswith("it no longer matches ") for it in said), said)
@@ -109,6 +114,10 @@ class Found(unittest.TestCase):
             found(pattern, How(), 2.0)
             self.assertLess(time.monotonic() - begun, 12, pattern[:30])
 
+    def test_a_run_that_a_look_ends(self) -> None:
+        cures = found(r'"(\\.|[^"\\]+)*"', ONE["search"])
+        self.assertEqual([(it.pattern, it.differs, it.is_proved) for it in cures], [(r'"(\\.|[^"\\]+(?![^"\\]))*"', "", True)])
+
     def test_no_time_is_no_cure(self) -> None:
         self.assertEqual(found(r"^(\w+,?)*$", ONE["search"], -1.0), [])
 
@@ -127,14 +136,14 @@ FALSE = (Rule("ruined", 0, ruined, ("a|b", "a")),)
 @unittest.skipIf(NO_ASK, NO_ASK)
 class Refused(unittest.TestCase):
     def test_a_false_rule_gives_no_fix(self) -> None:
-        with mock.patch.object(search, "RULES", FALSE), mock.patch.object(search, "WHOLE", ()):
+        with WITHOUT_LOOKS, mock.patch.object(search, "RULES", FALSE), mock.patch.object(search, "WHOLE", ()):
             for pattern in (r"(?:a+|b+)*c", r"x(?:\w+\s?)*y", r"(?:ab|ba|b)*d", r"(a*)*b"):
                 for cure in found(pattern, ONE["search"]):
                     self.assertNotEqual(cure.differs, "", (pattern, cure))
 
     def test_without_trials_too(self) -> None:
         blind = mock.patch.object(Trials, "kinds", lambda self, patterns, seconds: (["a"] * len(patterns), 0))
-        with blind, mock.patch.object(search, "RULES", FALSE), mock.patch.object(search, "WHOLE", ()):
+        with blind, WITHOUT_LOOKS, mock.patch.object(search, "RULES", FALSE), mock.patch.object(search, "WHOLE", ()):
             for cure in found(r"(?:a+|b+)*c", ONE["search"]):
                 self.assertNotEqual(cure.differs, "")
 
