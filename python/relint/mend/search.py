@@ -430,7 +430,7 @@ class Search:
         """Yields the tree with a look behind one endless run or all of them, also with one in front of a run that is first."""
         tree = self.pattern.tree
         runs, first = list(endless_runs(tree)), edge(tree, 0)
-        for some in [[it] for it in runs] + [runs] * (len(runs) > 1) + [[]] * (first is not None):
+        for some in [[]] * (first is not None) + [[it] for it in runs] + [runs] * (len(runs) > 1):
             new = tree
             # (from right to left, since a new item moves those behind it)
             for path, node in reversed(some):
