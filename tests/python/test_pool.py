@@ -145,7 +145,9 @@ class Order(unittest.TestCase):
 
 class Interrupted(unittest.TestCase):
     def test_no_process_is_left(self) -> None:
-        code = ("import sys, time\nfrom relint.stages.pool import Pool\n"
+        # (a shell's job in the background ignores SIGINT, and so does what it starts)
+        code = ("import signal, sys, time\nfrom relint.stages.pool import Pool\n"
+                "signal.signal(signal.SIGINT, signal.default_int_handler)\n"
                 "def work(piece):\n    print(end='')\n    while True: time.sleep(piece)\n"
                 "with Pool(3, work) as pool:\n"
                 "    print(*(it.pid for it in pool._workers), flush=True)\n    list(pool.answers([0, 1, 0]))\n")

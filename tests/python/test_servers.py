@@ -128,7 +128,7 @@ class Lines(unittest.TestCase):
         lost = replace(SUMMARY, not_looked=files)
         self.assertEqual(levels(summary=lost), ["::error"])
         self.assertEqual(levels(summary=lost, strict=True), ["::error", "::error"])
-        self.assertIn("::error file=b.py::not looked at: it isn't UTF-8", made(servers.github, [], lost))
+        self.assertIn("::error file=b.py,title=relint RLT203::not looked at: it isn't UTF-8", made(servers.github, [], lost))
 
     def test_github_names_accepts_and_the_configuration_in_their_places(self) -> None:
         summary = replace(SUMMARY, added_accepts=(("acc.json", 3, "why"),), narrowed=(Narrowed("p.toml", "exclude"),))

@@ -103,9 +103,10 @@ def github(findings: Sequence[Finding], summary: Summary, options: Options) -> I
     for it in summary.clock.within(others(findings, options)):
         yield annotation("error" if options.strict and is_open(it, options) else "notice", it, other_words(it))
     for lost in summary.clock.within([it for it in summary.not_looked if it.fails or options.strict]):
-        yield command("error", [("file", lost.path)], f"not looked at: {CAUSES.get(lost.why, lost.why)}")
-    for path, at, why in summary.added_accepts:
-        yield command("notice", [("file", path), ("line", str(at))], accepts(why, options))
+        at = [("file", lost.path), ("title", f"{NAME} RLT203")]
+        yield command("error", at, f"not looked at: {CAUSES.get(lost.why, lost.why)}")
+    for path, row, why in summary.added_accepts:
+        yield command("notice", [("file", path), ("line", str(row))], accepts(why, options))
     for narrowed in summary.narrowed or options.narrowed:
         yield command("notice", [("file", narrowed.source)], f"configuration: {narrowed.what} narrows this check")
     yield result(findings)
