@@ -115,7 +115,7 @@ def guard(text: str) -> Node:
 
 
 def look(behind: bool, negated: bool, mask: int) -> Node:
-    """Returns a new look at one character: before or behind a place, of the set or (`negated`) none of it."""
+    """Returns a new look at the character before a place (`behind`) or after it: one of the set or, if `negated`, none."""
     return Node(GUARD, name=LOOKS[behind, negated], mask=mask)
 
 

@@ -430,8 +430,8 @@ class Search:
         """Yields the tree with a look behind one endless run or all of them, also with one in front of a run that is first."""
         tree = self.pattern.tree
         runs, first = list(endless_runs(tree)), edge(tree, 0)
-        none: List[List[Tuple[Path, Node]]] = [[]] * (first is not None)
-        for some in none + [[it] for it in runs] + [runs] * (len(runs) > 1):
+        chosen: List[List[Tuple[Path, Node]]] = [[]] if first is not None else []
+        for some in [*chosen, *([it] for it in runs), *([runs] if len(runs) > 1 else [])]:
             new = tree
             # (from right to left, since a new item moves those behind it)
             for path, node in reversed(some):
