@@ -12,7 +12,7 @@ use Rattle.rl_numbers.specs.declared.double.Double.{Double}
 use Rattle.rl_numbers.specs.declared.triple.Triple.{Triple}
 use Rattle.rl_cert.specs.declared.certificate.Certificate.{Certificate}
 use Rattle.rl_cert.specs.declared.limits.TheConstants.{MOST_CERTIFICATE_BYTES}
-use Rattle.rl_cert.specs.Form.{whole, row_data, rows_data, anchor_row, double_row, triple_row, common_members, form_members, form_text, number_read, items_read, row_read, rows_read, all_of, anchor_of, double_of, triple_of, anchors_read, doubles_read, triples_read, lists_read, verdict_read, certificate_read, IsForm, IsSmall, AreSmall, IsSmallVerdict, IsWritten}
+use Rattle.rl_cert.specs.Form.{whole, row_data, rows_data, anchor_row, double_row, triple_row, common_members, form_members, form_text, number_read, items_read, row_read, rows_read, all_of, anchor_of, double_of, triple_of, anchors_read, doubles_read, triples_read, lists_read, verdict_read, certificate_read, IsForm, FitsU32, AllFitU32, VerdictFitsU32, IsWritten}
 use Rattle.rl_json.proofs.Writable.{IsWritable, AreWritable, AreWritableItems, put-writable, line-reads, line-utf8}
 
 -- ---- lists
@@ -23,27 +23,27 @@ items-back {A = A} f g P (x ∷ l) each all =
     ap (option_and_then (λ (y : A). option_map (λ (ys : List A). y ∷ ys) (items_read f (items_of (map g l))))) (each x (All-head P x l all))
     ∙ ap (option_map (λ (ys : List A). x ∷ ys)) (items-back f g P l each (All-tail P x l all))
 
-number-back : (n : ℕ) → IsSmall n → number_read (whole n) ≡ Some n
+number-back : (n : ℕ) → FitsU32 n → number_read (whole n) ≡ Some n
 number-back n h = rw (lt-ltb n (2 ^ 32) h) refl
 
-row-back : (row : List ℕ) → All IsSmall row → row_read (row_data row) ≡ Some row
-row-back row all = items-back number_read whole IsSmall row number-back all
+row-back : (row : List ℕ) → All FitsU32 row → row_read (row_data row) ≡ Some row
+row-back row all = items-back number_read whole FitsU32 row number-back all
 
-rows-back : (rows : List (List ℕ)) → AreSmall rows → rows_read (rows_data rows) ≡ Some rows
-rows-back rows all = items-back row_read row_data (All IsSmall) rows row-back all
+rows-back : (rows : List (List ℕ)) → AllFitU32 rows → rows_read (rows_data rows) ≡ Some rows
+rows-back rows all = items-back row_read row_data (All FitsU32) rows row-back all
 
 all-back : {A B : Type 0} (f : A → Option B) (g : B → A) (l : List B) → ((x : B) → f (g x) ≡ Some x) → all_of f (map g l) ≡ Some l
 all-back f g [] each = refl
 all-back {B = B} f g (x ∷ l) each =
     ap (option_and_then (λ (y : B). option_map (λ (ys : List B). y ∷ ys) (all_of f (map g l)))) (each x) ∙ ap (option_map (λ (ys : List B). x ∷ ys)) (all-back f g l each)
 
-anchors-back : (l : List Anchor) → AreSmall (map anchor_row l) → anchors_read (rows_data (map anchor_row l)) ≡ Some l
+anchors-back : (l : List Anchor) → AllFitU32 (map anchor_row l) → anchors_read (rows_data (map anchor_row l)) ≡ Some l
 anchors-back l all = ap (option_and_then (all_of anchor_of)) (rows-back (map anchor_row l) all) ∙ all-back anchor_of anchor_row l (λ a. refl)
 
-doubles-back : (l : List Double) → AreSmall (map double_row l) → doubles_read (rows_data (map double_row l)) ≡ Some l
+doubles-back : (l : List Double) → AllFitU32 (map double_row l) → doubles_read (rows_data (map double_row l)) ≡ Some l
 doubles-back l all = ap (option_and_then (all_of double_of)) (rows-back (map double_row l) all) ∙ all-back double_of double_row l (λ a. refl)
 
-triples-back : (l : List Triple) → AreSmall (map triple_row l) → triples_read (rows_data (map triple_row l)) ≡ Some l
+triples-back : (l : List Triple) → AllFitU32 (map triple_row l) → triples_read (rows_data (map triple_row l)) ≡ Some l
 triples-back l all = ap (option_and_then (all_of triple_of)) (rows-back (map triple_row l) all) ∙ all-back triple_of triple_row l (λ a. refl)
 
 -- ---- the members
@@ -57,7 +57,7 @@ lists-back : (v : Verdict) (c : Certificate) (a r d t : Data) → anchors_read a
     let x : Certificate = record { verdict = v; anchors = anchors; ranks = ranks; doubles = doubles; triples = triples } in x) (triples_read t)) (doubles_read d)) (row_read r)) (anchors_read a) ≡ Some (record c { verdict = v })
 lists-back v c a r d t ea er ed et = rw (ea, er, ed, et) refl
 
-lists-there : (c : Certificate) (v w : Verdict) → IsWritten c → IsSmallVerdict v → lists_read w (object (form_members c v)) ≡ Some (record c { verdict = w })
+lists-there : (c : Certificate) (v w : Verdict) → IsWritten c → VerdictFitsU32 v → lists_read w (object (form_members c v)) ≡ Some (record c { verdict = w })
 lists-there c (Degree d f) w ok told =
     lists-back w c (rows_data (map anchor_row c.anchors)) (row_data c.ranks) (rows_data (map double_row c.doubles)) (rows_data (map triple_row c.triples))
     (anchors-back c.anchors ok.anchors) (row-back c.ranks ok.ranks) (doubles-back c.doubles ok.doubles) (triples-back c.triples ok.triples)
@@ -66,7 +66,7 @@ lists-there c (Expo f) w ok told =
     (anchors-back c.anchors ok.anchors) (row-back c.ranks ok.ranks) (doubles-back c.doubles ok.doubles) (triples-back c.triples ok.triples)
 lists-there c (Undecided limit) w ok told = absurd told
 
-verdict-there : (c : Certificate) (v : Verdict) → IsSmallVerdict v → verdict_read (object (form_members c v)) ≡ Some v
+verdict-there : (c : Certificate) (v : Verdict) → VerdictFitsU32 v → verdict_read (object (form_members c v)) ≡ Some v
 verdict-there c (Degree d f) told =
     ap (option_and_then (λ (g : Family). option_map (λ (n : ℕ). Degree n g) (number_read (whole d)))) (family-back f.heads f.pumps (rows_data f.heads) (rows_data f.pumps) (rows-back f.heads told.1) (rows-back f.pumps told.2))
     ∙ ap (option_map (λ (n : ℕ). Degree n f)) (number-back d told.0)
@@ -74,31 +74,31 @@ verdict-there c (Expo f) told =
     ap (option_and_then (λ (g : Family). Some (Expo g))) (family-back f.heads f.pumps (rows_data f.heads) (rows_data f.pumps) (rows-back f.heads told.0) (rows-back f.pumps told.1))
 verdict-there c (Undecided limit) told = absurd told
 
-version-there : (c : Certificate) (v : Verdict) (w : Option Certificate) → IsSmallVerdict v → option_and_then (λ (x : Verdict). lists_read x (object (form_members c v))) (verdict_read (object (form_members c v))) ≡ w → certificate_read (object (form_members c v)) ≡ w
+version-there : (c : Certificate) (v : Verdict) (w : Option Certificate) → VerdictFitsU32 v → option_and_then (λ (x : Verdict). lists_read x (object (form_members c v))) (verdict_read (object (form_members c v))) ≡ w → certificate_read (object (form_members c v)) ≡ w
 version-there c (Degree d f) w told e = e
 version-there c (Expo f) w told e = e
 version-there c (Undecided limit) w told e = absurd told
 
-members-back : (c : Certificate) (v : Verdict) → IsWritten c → IsSmallVerdict v → certificate_read (object (form_members c v)) ≡ Some (record c { verdict = v })
+members-back : (c : Certificate) (v : Verdict) → IsWritten c → VerdictFitsU32 v → certificate_read (object (form_members c v)) ≡ Some (record c { verdict = v })
 members-back c v ok told =
     version-there c v (Some (record c { verdict = v })) told
     (ap (option_and_then (λ (x : Verdict). lists_read x (object (form_members c v)))) (verdict-there c v told) ∙ lists-there c v v ok told)
 
 -- ---- the line
 
-row-writable : (n : ℕ) (row : List ℕ) → All IsSmall row → AreWritableItems n (items_of (map whole row))
+row-writable : (n : ℕ) (row : List ℕ) → All FitsU32 row → AreWritableItems n (items_of (map whole row))
 row-writable n [] all = tt
-row-writable n (x ∷ row) all = (let small = All-head IsSmall x row all in omega arith, row-writable n row (All-tail IsSmall x row all))
+row-writable n (x ∷ row) all = (let small = All-head FitsU32 x row all in omega arith, row-writable n row (All-tail FitsU32 x row all))
 
-rows-writable : (n : ℕ) (rows : List (List ℕ)) → AreSmall rows → AreWritableItems (suc n) (items_of (map row_data rows))
+rows-writable : (n : ℕ) (rows : List (List ℕ)) → AllFitU32 rows → AreWritableItems (suc n) (items_of (map row_data rows))
 rows-writable n [] all = tt
-rows-writable n (row ∷ rows) all = (row-writable n row (All-head (All IsSmall) row rows all), rows-writable n rows (All-tail (All IsSmall) row rows all))
+rows-writable n (row ∷ rows) all = (row-writable n row (All-head (All FitsU32) row rows all), rows-writable n rows (All-tail (All FitsU32) row rows all))
 
 -- A member with a name in ASCII.
 put-named : (n : ℕ) (k : List ℕ) (d : Data) (ms : Members) → are_ascii k ≡ true → IsWritable n d → AreWritable n ms → AreWritable n (put k d ms)
 put-named n k d ms ascii w all = put-writable n k d ms (IsUtf8-are_ascii k ascii) w all
 
-common-writable : (c : Certificate) (f : Family) → IsWritten c → AreSmall f.heads → AreSmall f.pumps → AreWritable 2 (common_members c f)
+common-writable : (c : Certificate) (f : Family) → IsWritten c → AllFitU32 f.heads → AllFitU32 f.pumps → AreWritable 2 (common_members c f)
 common-writable c f ok heads pumps =
     let m1 = put (codes "anchors") (rows_data (map anchor_row c.anchors)) no_members in
     let m2 = put (codes "doubles") (rows_data (map double_row c.doubles)) m1 in
@@ -114,7 +114,7 @@ common-writable c f ok heads pumps =
     (put-named 2 (codes "doubles") (rows_data (map double_row c.doubles)) m1 refl (rows-writable 0 (map double_row c.doubles) ok.doubles)
     (put-named 2 (codes "anchors") (rows_data (map anchor_row c.anchors)) no_members refl (rows-writable 0 (map anchor_row c.anchors) ok.anchors) tt))))))
 
-members-writable : (c : Certificate) (v : Verdict) → IsWritten c → IsSmallVerdict v → IsWritable 3 (object (form_members c v))
+members-writable : (c : Certificate) (v : Verdict) → IsWritten c → VerdictFitsU32 v → IsWritable 3 (object (form_members c v))
 members-writable c (Degree d f) ok told =
     put-named 2 (codes "kind") (string (codes "degree")) (put (codes "degree") (whole d) (common_members c f)) refl (IsUtf8-are_ascii (codes "degree") refl)
     (put-named 2 (codes "degree") (whole d) (common_members c f) refl (let small = told.0 in omega arith) (common-writable c f ok told.1 told.2))

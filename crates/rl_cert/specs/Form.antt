@@ -183,12 +183,12 @@ pub record IsForm (bytes : List ℕ) (c : Certificate) : Type 0 where
 -- ---- what can be written
 
 -- The number fits 32 bits.
-abbrev pub IsSmall : ℕ → Type 0
-IsSmall n = n < 2 ^ 32
+abbrev pub FitsU32 : ℕ → Type 0
+FitsU32 n = n < 2 ^ 32
 
 -- All numbers of the rows fit 32 bits.
-abbrev pub AreSmall : List (List ℕ) → Type 0
-AreSmall rows = All (All IsSmall) rows
+abbrev pub AllFitU32 : List (List ℕ) → Type 0
+AllFitU32 rows = All (All FitsU32) rows
 
 -- The verdict isn't undecided.
 abbrev pub IsDecided : Verdict → Type 0
@@ -197,15 +197,15 @@ IsDecided (Expo f) = Unit {0}
 IsDecided (Undecided limit) = ⊥
 
 -- The verdict isn't undecided, and all its numbers fit 32 bits.
-abbrev pub IsSmallVerdict : Verdict → Type 0
-IsSmallVerdict (Degree d f) = IsSmall d × AreSmall f.heads × AreSmall f.pumps
-IsSmallVerdict (Expo f) = AreSmall f.heads × AreSmall f.pumps
-IsSmallVerdict (Undecided limit) = ⊥
+abbrev pub VerdictFitsU32 : Verdict → Type 0
+VerdictFitsU32 (Degree d f) = FitsU32 d × AllFitU32 f.heads × AllFitU32 f.pumps
+VerdictFitsU32 (Expo f) = AllFitU32 f.heads × AllFitU32 f.pumps
+VerdictFitsU32 (Undecided limit) = ⊥
 
 -- The verdict isn't undecided, and all numbers of the certificate fit 32 bits.
 pub record IsWritten (c : Certificate) : Type 0 where
-  pub verdict : IsSmallVerdict c.verdict
-  pub anchors : AreSmall (map anchor_row c.anchors)
-  pub ranks : All IsSmall c.ranks
-  pub doubles : AreSmall (map double_row c.doubles)
-  pub triples : AreSmall (map triple_row c.triples)
+  pub verdict : VerdictFitsU32 c.verdict
+  pub anchors : AllFitU32 (map anchor_row c.anchors)
+  pub ranks : All FitsU32 c.ranks
+  pub doubles : AllFitU32 (map double_row c.doubles)
+  pub triples : AllFitU32 (map triple_row c.triples)

@@ -21,10 +21,11 @@ ghost use Rattle.rl_pairs.specs.PairGraph.{IsPairGraph, IsNumbered};
 ghost use Rattle.rl_pairs.specs.RightVerdict.{Question, IsMachine, measure_of};
 
 /// The complete upper bound, stated without reference to any search. Let `s` be the measure of the tree of a question, which
-/// is its size if it has no lookaround, and let no live pair have a twin. `numbers`: let the live pairs have numbers that never increase along a move, such that no split
-/// leads between pairs with the same number, and let the number of the first pair (and so every number) be at most `d`; then
-/// each text of `n` codes costs at most `C(s, d + 1) (n + 1)^(d + 1)`. `ranks`: the ranks of the pairs are such numbers.
-/// `flat`: if no live pair is on a cycle, each text costs at most `C(s, 0)`. Here `C` is `bound_c`.
+/// is its size if it has no lookaround, and let no live pair have a twin. `numbers`: let the live pairs have numbers that never
+/// increase along a move, such that no split leads between pairs with the same number, and let the number of the first pair
+/// (and so every number) be at most `d`; then each text of `n` codes costs at most `C(s, d + 1) (n + 1)^(d + 1)`. `ranks`: the
+/// ranks of the pairs are such numbers. `flat`: if no live pair is on a cycle, each text costs at most `C(s, 0)`. Here `C` is
+/// `bound_c`.
 pub fn live_pairs_bound_costs()
     ensures numbers { (q : Question) (a : Automaton) (next : ℕ → ℕ → List ℕ) (at : ℕ → Pair) (n : ℕ)
         → IsMachine q a → IsAutomaton a → IsPairGraph a next at n → IsNumbered a next at n → HasNoTwin next

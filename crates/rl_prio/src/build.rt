@@ -21,8 +21,7 @@ mod sets;
 mod shared;
 
 use crate::build::attempts::ListError;
-pub use crate::build::sets::add_guard_sets;
-use crate::build::sets::add_sets;
+use crate::build::sets::{add_guard_sets, add_sets};
 use crate::build::shared::shared;
 use crate::error::PrioError;
 use crate::prio::Prio;

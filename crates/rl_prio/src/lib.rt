@@ -32,6 +32,6 @@ pub mod laws;
 mod prio;
 mod rows;
 
-pub use build::{add_guard_sets, add_letter_sets};
+pub use build::add_letter_sets;
 pub use error::PrioError;
 pub use prio::Prio;

@@ -21,8 +21,8 @@ pub(crate) enum Trial {
     Equal,
     /// The languages differ.
     Apart,
-    /// The trial was given up because it exceeded its limit on set pairs.
-    GaveUp,
+    /// The limit on set pairs was exceeded, so nothing is known.
+    Exceeded,
 }
 
 /// Tries a branch by comparing `before`, the tree of a body with it, and `after`, the tree without it, and returns the
@@ -52,7 +52,7 @@ pub(crate) fn run_trial(
             drop(text);
             Ok(Trial::Apart)
         }
-        Ok(Sameness::Passed) => Ok(Trial::GaveUp),
+        Ok(Sameness::Passed) => Ok(Trial::Exceeded),
         Err(SameError::OutOfMemory) => Err(OutOfMemory),
         Err(SameError::Size | SameError::Letters | SameError::Moves) => unreachable!(),
     }

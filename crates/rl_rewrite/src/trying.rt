@@ -149,14 +149,14 @@ fn with_first(alloc: Global, first: Span, others: &[Span]) -> Result<Spans, OutO
     Ok(Spans::from_vec(all))
 }
 
-/// Returns the outcome of a trial that a [`Trimmer`] has judged: the same one, except that `Passed` is called `GaveUp`.
+/// Returns the outcome of a trial that a [`Trimmer`] has judged.
 fn told(found: Judgement) -> Trial
     ensures { result ≡ trial_for found }
 {
     match found {
         Judgement::Equal => Trial::Equal,
         Judgement::Apart => Trial::Apart,
-        Judgement::Passed => Trial::GaveUp,
+        Judgement::Exceeded => Trial::Exceeded,
     }
 }
 
@@ -429,7 +429,7 @@ fn try_branch(
             drop(more);
             Ok(())
         }
-        Trial::GaveUp => {
+        Trial::Exceeded => {
             drop(more);
             let passed = with_first(alloc, branch, tries.passed.as_slice())?;
             tries.passed = passed;

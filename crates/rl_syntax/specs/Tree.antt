@@ -1,6 +1,7 @@
 -- Trees. A lowered pattern is a tree of the operators of Python's `re`. A set is the test of its characters: the function from
 -- codes to `true` or `false`. A guard is an anchor, a word boundary or a lookaround of one character: it tests a position of a
--- text and reads no character. A universe is the range of codes, from 0, that a text may contain: those of `str` or those of `bytes`.
+-- text and reads no character. A universe is the range of codes, from 0, that a text may contain: those of `str` or those of
+-- `bytes`.
 use Rattle.std.specs.Prelude.{ℕ, suc, ◌+◌, ◌<◌, Bool, false, ◌||◌, IsTrue, List, [], ◌∷◌, ◌++◌, min}
 use Rattle.rl_ranges.specs.Codes.{has}
 use Rattle.rl_ranges.specs.Text.{code_count}

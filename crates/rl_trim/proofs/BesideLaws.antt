@@ -28,7 +28,7 @@ use Rattle.rl_equiv.specs.declared.pair.SetPair.{SetPair}
 use Rattle.rl_equiv.specs.SetPairs.{joint_sets, set_pairs, IsClosed}
 use Rattle.rl_equiv.proofs.ClosedLaws.{closed-same}
 use Rattle.rl_trim.specs.declared.judgement.Judgement.{Judgement}
-use Rattle.rl_trim.specs.declared.judgement.Judgement.TheVariants.{Equal, Apart, Passed}
+use Rattle.rl_trim.specs.declared.judgement.Judgement.TheVariants.{Equal, Apart, Exceeded}
 use Rattle.rl_trim.specs.Judged.{IsJudged, IsTrueJudgement}
 use Rattle.rl_trim.specs.Without.{Without}
 use Rattle.rl_trim.proofs.WithoutMoves.{without_tells}
@@ -142,4 +142,4 @@ same-language u a s t relation base fewer closed = closed-same u t s a (other u 
 pub judged-told : (u : Universe) (a : Automaton) (s t : Tree) (keep : List Bool) (limit : ℕ) (j : Judgement) → IsBase u t a → Without keep s t → IsJudged (set_pairs u t s) limit j → IsTrueJudgement u t s j
 judged-told u a s t keep limit Equal base without h = same-language u a s t h.0 base (without_tells without) h.1.closed
 judged-told u a s t keep limit Apart base without h = tt
-judged-told u a s t keep limit Passed base without h = tt
+judged-told u a s t keep limit Exceeded base without h = tt

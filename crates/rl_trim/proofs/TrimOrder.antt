@@ -20,7 +20,7 @@ use Rattle.rl_equiv.specs.internal.Machines.{all_proper}
 use Rattle.rl_equiv.proofs.ReaderLaws.{reads}
 use Rattle.rl_equiv.proofs.RiseLaws.{rises-parts, rises-cons, rises-lower, rises-filter}
 use Rattle.rl_trim.specs.declared.judgement.Judgement.{Judgement}
-use Rattle.rl_trim.specs.declared.judgement.Judgement.TheVariants.{Equal, Apart, Passed}
+use Rattle.rl_trim.specs.declared.judgement.Judgement.TheVariants.{Equal, Apart, Exceeded}
 use Rattle.rl_trim.specs.Judged.{IsJudged, IsFound}
 use Rattle.rl_trim.specs.Without.{Without}
 use Rattle.rl_trim.specs.Twins.{is_kept}
@@ -159,7 +159,7 @@ module _ (u : Universe) (a : Automaton) (s t : Tree) (keep : List Bool) (base : 
   judged-sunk limit Equal h =
       (found_after (set_pairs u t s) limit, order-all (set_pairs u t s) limit (omega (arith, h.0, trim-length limit)) (proper-found limit) (trim-none limit h.1))
   judged-sunk limit Apart h = trim-any limit h
-  judged-sunk limit Passed h = record { more = omega (arith, h.more, trim-length limit); none_differs = trim-none limit h.none_differs }
+  judged-sunk limit Exceeded h = record { more = omega (arith, h.more, trim-length limit); none_differs = trim-none limit h.none_differs }
 
 -- What a trial on the automaton of the whole tree tells is so of both trees.
 pub judged : (u : Universe) (a : Automaton) (s t : Tree) (keep : List Bool) (limit : ℕ) (j : Judgement) → IsBase u t a → guards_in t ≡ [] → Without keep s t

@@ -19,7 +19,7 @@ use Rattle.rl_equiv.specs.SetPairs.{first_pair, differs}
 use Rattle.rl_equiv.specs.Numbering.{found_after, NoneDiffers}
 use Rattle.rl_equiv.proofs.ImageLaws.{map-below}
 use Rattle.rl_trim.specs.declared.judgement.Judgement.{Judgement}
-use Rattle.rl_trim.specs.declared.judgement.Judgement.TheVariants.{Equal, Apart, Passed}
+use Rattle.rl_trim.specs.declared.judgement.Judgement.TheVariants.{Equal, Apart, Exceeded}
 use Rattle.rl_trim.specs.Judged.{IsFound}
 use Rattle.rl_trim.specs.Known.{whole_on, whole_nexts, whole_pairs}
 use Rattle.rl_trim.specs.Twins.{is_kept, StandsIn, AreTwins, HasTwin}
@@ -223,7 +223,7 @@ module _ (a : Automaton) (keep : List Bool) (f : ℕ → ℕ) (whole : IsAutomat
   found-carried : (limit : ℕ) (j : Judgement) → IsFound (whole_pairs a) limit j → IsFound (trim_pairs a keep) limit j
   found-carried limit Equal h = (omega (arith, h.0, pairs-length limit), pairs-none limit h.1)
   found-carried limit Apart h = any-same (whole_pairs a) (trim_pairs a keep) (IsTwice a f) (with_trimmed keep) refl first-twice nexts-twice nexts-carried one-carried differs-carried limit h
-  found-carried limit Passed h = record { more = omega (arith, h.more, pairs-length limit); none_differs = pairs-none limit h.none_differs }
+  found-carried limit Exceeded h = record { more = omega (arith, h.more, pairs-length limit); none_differs = pairs-none limit h.none_differs }
 
 -- The trial of a branch that has an equal one beside it has the result of the trial that leaves nothing out.
 pub twin-found : (a : Automaton) (keep : List Bool) (limit : ℕ) (j : Judgement) → HasTwin a keep → IsFound (whole_pairs a) limit j → IsFound (trim_pairs a keep) limit j

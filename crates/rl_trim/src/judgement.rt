@@ -9,5 +9,5 @@ pub enum Judgement {
     /// The languages differ: one of the set pairs within the limit shows a difference.
     Apart,
     /// More set pairs are reached than the limit allows, and those within the limit show no difference.
-    Passed,
+    Exceeded,
 }

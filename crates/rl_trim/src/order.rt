@@ -259,7 +259,7 @@ impl Order {
 
     /// Carries out the trial: looks at the first `limit` pairs one after another, and appends the next pairs of each. Returns
     /// `Apart` as soon as one of them shows a difference, `Equal` if there are no more than `limit` pairs and none does, and
-    /// `Passed` otherwise. Once more than `limit` pairs are found, no further ones are searched for. The search must have
+    /// `Exceeded` otherwise. Once more than `limit` pairs are found, no further ones are searched for. The search must have
     /// found only the first pair yet. The changes of the states are found and kept in `changes` if they are needed and aren't
     /// there yet.
     pub(crate) fn judge(
@@ -289,7 +289,7 @@ impl Order {
             }
         }
         if self.keys.len() > limit {
-            return Ok(Judgement::Passed);
+            return Ok(Judgement::Exceeded);
         }
         Ok(Judgement::Equal)
     }

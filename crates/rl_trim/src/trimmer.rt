@@ -208,7 +208,7 @@ fn trial_of(
     ensures store { OnOk result (IsStore branch.now.automaton.now store.new) }
 {
     let quick = quick_trial_in(alloc, branch, store, limit)?;
-    if let Some(found @ (Judgement::Apart | Judgement::Passed)) = quick {
+    if let Some(found @ (Judgement::Apart | Judgement::Exceeded)) = quick {
         return Ok(found);
     }
     if finds_twin(alloc, branch, store)? {
@@ -380,7 +380,7 @@ impl Trimmer {
     /// Compares the language of the tree with the language of the tree without the branches whose places aren't kept. A place
     /// is a leaf of the tree that matches one code. `keep` has one flag for each place, from left to right, which says whether
     /// it is kept; `limit` is the most set pairs that the comparison may look at. Returns the result that a comparison of both
-    /// trees has: [`Judgement::Equal`], [`Judgement::Apart`] or [`Judgement::Passed`]. Returns `None` if the trial needs more
+    /// trees has: [`Judgement::Equal`], [`Judgement::Apart`] or [`Judgement::Exceeded`]. Returns `None` if the trial needs more
     /// sets than a walk may have, even with a new walk. The result has this meaning only if the tree has no guards, `keep` has
     /// one flag for each place, and the places that aren't kept are the places of branches none of which may span the empty
     /// text. Sets that the trial finds may be kept for later trials.

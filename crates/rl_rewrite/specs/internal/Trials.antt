@@ -13,30 +13,29 @@ use Rattle.rl_pattern.specs.Suggested.{Verdict, equal, apart, undecided, Tried, 
 use Rattle.rl_trim.specs.declared.judgement.Judgement.{Judgement}
 use Rattle.rl_trim.specs.declared.judgement.Judgement.TheVariants as judgement
 use Rattle.rl_rewrite.specs.declared.trial.Trial.{Trial}
-use Rattle.rl_rewrite.specs.declared.trial.Trial.TheVariants.{Equal, Apart, GaveUp}
+use Rattle.rl_rewrite.specs.declared.trial.Trial.TheVariants.{Equal, Apart, Exceeded}
 use Rattle.rl_rewrite.specs.declared.trying.Trials.{Trials}
 use Rattle.rl_rewrite.specs.Verdicts.{IsVerdict}
 
 -- The verdict that has the same meaning as the outcome of a trial: `equal` for `Equal`, `apart` for `Apart`, and `undecided`
--- for `GaveUp`, which means that the limit was exceeded.
+-- for `Exceeded`.
 abbrev pub verdict_of : Trial → Verdict
 verdict_of Equal = equal
 verdict_of Apart = apart
-verdict_of GaveUp = undecided
+verdict_of Exceeded = undecided
 
--- The outcome of a trial that has the same meaning as a judgement, which is what a trial on only one automaton returns:
--- `GaveUp` for `Passed`, since both mean that the limit was exceeded.
+-- The outcome of a trial that has the same meaning as a judgement, which is what a trial on only one automaton returns.
 abbrev pub trial_for : Judgement → Trial
 trial_for judgement.Equal = Equal
 trial_for judgement.Apart = Apart
-trial_for judgement.Passed = GaveUp
+trial_for judgement.Exceeded = Exceeded
 
 -- Holds if what the outcome of a trial says about the languages of the two trees is true. Only `Equal` says something: the
 -- languages are the same.
 abbrev pub IsTrueTrial : Universe → Tree → Tree → Trial → Type 0
 IsTrueTrial u s t Equal = OneLanguage u s t
 IsTrueTrial u s t Apart = Unit {0}
-IsTrueTrial u s t GaveUp = Unit {0}
+IsTrueTrial u s t Exceeded = Unit {0}
 
 -- Holds if trying the branches in the list `bs`, from last to first, may have dropped the branches in `dropped` and exceeded
 -- the limit for those in `passed`, the rules allow the dropped branches to go, and the language of the body is the same
