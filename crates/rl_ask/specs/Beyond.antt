@@ -51,8 +51,8 @@ nothing_beyond = record { lookaround = false; inner_anchor = false }
 abbrev pub with_both : Beyond → Beyond → Beyond
 with_both a b = record { lookaround = a.lookaround || b.lookaround; inner_anchor = a.inner_anchor || b.inner_anchor }
 
--- What is told of a text that is read as `p`: whether a part of it is a lookaround, and whether it has a `$` inside, so that the
--- grammar of finds refuses it.
+-- What is told of a text that is read as `p`: whether a part of it is a lookaround, and whether it has a `$` inside, so that
+-- the grammar of finds refuses it.
 pub record IsOf (terms : Terms) (word : Text) (p : Pattern) (told : Beyond) : Type 0 where
   pub lookaround : told.lookaround ≡ holds_look (body_of p)
   pub anchor : told.inner_anchor ≡ true → IsRefusedBy grammar_of_finds terms word

@@ -11,8 +11,8 @@ use Rattle.rl_why.specs.declared.explaining.Explained.{Explained}
 use Rattle.rl_ask.specs.declared.answer.Answer.{Answer}
 use Rattle.rl_ask.specs.declared.answer.Answer.TheVariants as answer
 
--- Holds if the verdict on the pattern is right, its family has only codes of the pattern's universe, and the reading is one of its
--- family, in the pattern's tree.
+-- Holds if the verdict on the pattern is right, its family has only codes of the pattern's universe, and the reading is one of
+-- its family, in the pattern's tree.
 pub record IsExplanation (mode : Mode) (pairs : ℕ) (p : Pattern) (e : Explained) : Type 0 where
   pub right : RightVerdict (question_about p mode pairs) e.verdict
   pub texts : HasTexts (universe_of p) e.verdict

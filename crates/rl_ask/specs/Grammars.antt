@@ -1,6 +1,6 @@
--- Grammars: what of a pattern is read, by what a question asks of it. The profile is what `relint` reads (`specs/Parsed.antt` of
--- `rl_pattern`). A wider grammar reads lookarounds of one character too, and a `$` without MULTILINE that ends the pattern inside
--- a group or a branch (`specs/Beyond.antt` there). What becomes of that `$` depends on what is asked.
+-- Grammars: what of a pattern is read, by what a question asks of it. The profile is what `relint` reads (`specs/Parsed.antt`
+-- of `rl_pattern`). A wider grammar reads lookarounds of one character too, and a `$` without MULTILINE that ends the pattern
+-- inside a group or a branch (`specs/Beyond.antt` there). What becomes of that `$` depends on what is asked.
 use Rattle.std.specs.Prelude.{ℕ, List, Result}
 use Rattle.rl_ranges.specs.declared.universe.Universe.{Universe}
 use Rattle.rl_syntax.specs.declared.pattern.Pattern.{Pattern}
@@ -19,8 +19,8 @@ abbrev pub IsParsedIn : Grammar → Flags → Universe → List ℕ → Result P
 IsParsedIn Profile flags u w found = IsParsed flags u w found
 IsParsedIn (Wider dollar) flags u w found = IsParsedBeyond dollar flags u w found
 
--- The grammar of a question about matches in the mode. By `fullmatch`, a match ends at the end of the text anyway, so that the `$`
--- is dropped. By `match` and `search`, it becomes an optional line feed and the end of the text.
+-- The grammar of a question about matches in the mode. By `fullmatch`, a match ends at the end of the text anyway, so that the
+-- `$` is dropped. By `match` and `search`, it becomes an optional line feed and the end of the text.
 abbrev pub grammar_in : Mode → Grammar
 grammar_in Fullmatch = Wider Dropped
 grammar_in Match = Wider LastLine

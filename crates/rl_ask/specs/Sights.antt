@@ -1,4 +1,5 @@
--- Sights: what a pattern finds, and limits, as texts. Positions are counted in codes from 0, and numbers are written in decimal.
+-- Sights: what a pattern finds, and limits, as texts. Positions are counted in codes from 0, and numbers are written in
+-- decimal.
 use Rattle.std.specs.Prelude.{ℕ, ◌+◌, List, [], ◌∷◌, ◌++◌, Option, Some, None, codes}
 use Rattle.std.specs.Fmt.{decimal}
 use Rattle.rl_ranges.specs.declared.letters.TheConstants.{MOST_LETTERS}

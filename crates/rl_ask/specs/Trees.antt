@@ -1,5 +1,5 @@
--- Trees: what is promised of an answer that gives the parts of a pattern. The letters of a pattern are the classes of codes that
--- none of its sets tells apart.
+-- Trees: what is promised of an answer that gives the parts of a pattern. The letters of a pattern are the classes of codes
+-- that none of its sets tells apart.
 use Rattle.std.specs.Prelude.{◌≡◌, ◌<◌, length, false}
 use Rattle.serde_json.specs.View.{view}
 use Rattle.serde_json.specs.Written.{has_float}

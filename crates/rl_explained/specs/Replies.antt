@@ -1,6 +1,6 @@
--- What the reply to a question `ways` has besides the verdict: how the pumps of its family, which are the texts that it repeats,
--- are read. `rl_why` defines readings in its `specs/Readings.antt`. Pumps are numbered from 0. Each definition with `Members`
--- takes the members that an object already has, and returns them with its own members added.
+-- What the reply to a question `ways` has besides the verdict: how the pumps of its family, which are the texts that it
+-- repeats, are read. `rl_why` defines readings in its `specs/Readings.antt`. Pumps are numbered from 0. Each definition with
+-- `Members` takes the members that an object already has, and returns them with its own members added.
 use Rattle.std.specs.Prelude.{ℕ, suc, List, [], ◌∷◌, ◌==◌, length, Option, codes, slice_index_or, if◌then◌else◌}
 use Rattle.std.specs.Option.{option_map_or}
 use Rattle.serde_json.specs.Data.{Data, Members, string, object, no_members, put}
@@ -33,7 +33,8 @@ twin_data universe pumps r =
     let ways = list_data (way_data r.first ∷ way_data r.second ∷ []) in
     object (put (codes "parts") (whole r.parts) (read_members universe pumps 0 ways))
 
--- The object of the three ways of a split, which stay before, go over and stay behind, with the loops of the first and the last.
+-- The object of the three ways of a split, which stay before, go over and stay behind, with the loops of the first and the
+-- last.
 abbrev pub split_data : Universe → List (List ℕ) → ℕ → SplitReading → Data
 split_data universe pumps k r =
     let ways = list_data (way_data r.before ∷ way_data r.over ∷ way_data r.behind ∷ []) in

@@ -39,8 +39,8 @@ taken_data t =
     object (put (codes "side") (string (side_name t.side))
     (put (codes "kind") (string (kind_name t.at)) (put (codes "at") (place_data (span_at t.at)) no_members)))
 
--- The object of a step: what reads the character, which is `null` if that isn't written in the pattern, and the decisions before
--- it, in order.
+-- The object of a step: what reads the character, which is `null` if that isn't written in the pattern, and the decisions
+-- before it, in order.
 abbrev pub step_data : Step → Data
 step_data s =
     object (put (codes "took") (list_data (map taken_data s.took)) (put (codes "place") (place_data (span_at s.place)) no_members))

@@ -57,8 +57,8 @@ is_difference Exceeded = false
 is_difference Equal = false
 is_difference _ = true
 
--- The line that shows the text of a region, two spaces and `NAME LITERAL`, with the text as a quoted Python literal. Nothing if the region
--- has no text.
+-- The line that shows the text of a region, two spaces and `NAME LITERAL`, with the text as a quoted Python literal. Nothing if
+-- the region has no text.
 abbrev pub region_line : Text → Option (List ℕ) → Text
 region_line name None = []
 region_line name (Some text) = codes "  " ++ (name ++ (codes " " ++ (quoted_text Str text ++ codes "\n")))

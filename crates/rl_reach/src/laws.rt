@@ -52,9 +52,9 @@ pub fn search_is_a_match_from_each_place()
         → (w : List ℕ) → IsText u w → cost (wrapped Mode.Search u leading trail t) (ending_at trail) w ≤ 1 + c * (length w + 1) ^ suc d }
 {}
 
-/// A search is also a match from each place behind the character before that place, whatever guards there are. So its cost is at
-/// most the sum of the costs of the match from the start, and of the matches of one character followed by the pattern from all
-/// places.
+/// A search is also a match from each place behind the character before that place, whatever guards there are. So its cost is
+/// at most the sum of the costs of the match from the start, and of the matches of one character followed by the pattern from
+/// all places.
 pub fn search_is_a_match_behind_each_character()
     ensures { (u : Universe) (leading : Bool) (trail : Trail) (t : Tree) (w : List ℕ) → IsText u w
         → cost (wrapped Mode.Search u leading trail t) (ending_at trail) w

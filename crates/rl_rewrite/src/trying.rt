@@ -463,8 +463,8 @@ fn try_each(
     Ok(())
 }
 
-/// Tries all branches of a body and records the outcomes in `tries`. No branch may have been tried before. `base` is the tree of
-/// the whole body; if there are branches, its automaton is the first one on which they are tried.
+/// Tries all branches of a body and records the outcomes in `tries`. No branch may have been tried before. `base` is the tree
+/// of the whole body; if there are branches, its automaton is the first one on which they are tried.
 fn try_all(
     alloc: Global,
     p: &Pattern,
