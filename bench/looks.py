@@ -1,9 +1,10 @@
-"""Compares relint-ask with Python's own `re` on random patterns with looks of one character and a `$` inside, for `ask`.
+"""Compares relint-ask with Python's own `re` on random patterns with looks and a `$` inside, for `ask`.
 
-Each pattern has flags and is tried on a few texts. Of each pair of a pattern and a text, relint-ask is asked what `match`,
-`fullmatch` and `search` find from two places, with the groups, what each step of `finditer` finds, and by `cost` in each mode
-whether there is a match. All of that has to be what `re` says. A reply names `lookaround` under `beyond` exactly if the
-pattern has a look.
+A look is of one character, or of a choice of characters and anchors. Each pattern has flags and is tried on a few texts. Of
+each pair of a pattern and a text, relint-ask is asked what `match`, `fullmatch` and `search` find from two places, with the
+groups, what each step of `finditer` finds, and by `cost` in each mode whether there is a match. All of that has to be what
+`re` says. A reply names `lookaround` under `beyond` exactly if the pattern has a look. relint-ask has to refuse each pattern
+with a look that `is_read` says isn't read, and no other for a look.
 """
 from __future__ import annotations
 
@@ -14,19 +15,25 @@ import warnings
 from collections import Counter
 from contextlib import closing
 from functools import partial
-from typing import Any, Dict, List, Mapping, NamedTuple, Optional, Tuple
+from typing import Any, Dict, List, Mapping, NamedTuple, Optional, Sequence, Tuple
 
 from limited import GivenUp, limited
 from relint.engine.ask import Asker
 from relint.options import Options
 
 TEXTS_A_PATTERN, PATTERNS_A_BATCH, LONGEST, LONGEST_PATTERN, SECONDS = 8, 25, 8, 40, 10.0
-LETTERS, RARE = "aab bc\nA_1", "\u00e9\u00dfK\t-"
+LETTERS, RARE = "aab bc\nA_1,", "\u00e9\u00dfK\t-"
 ATOMS = ["a", "b", "a", "b", "c", ".", "[ab]", "[^a]", r"\s", r"\w", r"\W", "(?:)", "()", r"\n", "A", "[^\\W_]", "\u00e9"]
 # What a look can look for: a character, a class, a choice of these, in a group or not.
 LOOKED = ["a", "b", ".", "[ab]", "[^a]", r"\w", r"\s", r"\W", r"\n", "c|a", r"[bc]|\s", "(?:a)", "(?:b|c)", r"(?:a|\n)|_",
           "\u00e9", "(?s:.)", "(?i:a)", "[^\\n]"]
 LOOKS = ["(?=", "(?!", "(?<=", "(?<!"]
+# What a look with anchors is a choice of: characters, with whether a line feed is among them, and anchors, with the side of a
+# place to which they look.
+CHARACTERS = {"a": False, ",": False, r"\s": True, r"\n": True, "[^a]": True, r"\w": False, r"\W": True, "(?s:.)": True,
+              "(?-s:.)": False, r"(?:b|\n)": True, r"(?i:[a-c])": False}
+EDGES = {"^": "behind", r"\A": "behind", "(?m:^)": "behind", "(?-m:^)": "behind", "$": "ahead", r"\Z": "ahead",
+         "(?m:$)": "ahead", "(?-m:$)": "ahead", "(?:$)": "ahead", r"\b": "both"}
 ANCHORS = ["^", r"\A", r"\Z", r"\b", r"\B", "(?m:^)", "(?m:$)"]
 # What stands at the end of a branch now and then: there relint-ask reads a `$`, unless something follows the branch.
 ENDS = ["", "", "", "", "", "", "", "$", "$", "(?-m:$)"]
@@ -43,6 +50,7 @@ class Pair(NamedTuple):
     flags: str
     is_bytes: bool
     text: str
+    is_read: bool = True
 
     @property
     def has_look(self) -> bool:
@@ -62,6 +70,19 @@ class Asked(NamedTuple):
     wanted: object
 
 
+def is_read(opening: str, parts: Sequence[str], multiline: bool) -> bool:
+    """Returns whether relint-ask reads a look that is a choice of these parts, in a pattern with or without MULTILINE.
+
+    All parts must look to one side, a character to that of the look. One side doesn't tell whether a line feed is the last
+    character. So if a `$` without MULTILINE is among the parts, another one must hold at each line feed.
+    """
+    own = "behind" if "<" in opening else "ahead"
+    lines = ["(?m:^)", "(?m:$)", *(["^", "$", "(?:$)"] if multiline else [])]
+    is_last = any("$" in it and it not in lines for it in parts)
+    return {EDGES.get(it, own) for it in parts} in ({"behind"}, {"ahead"}) and (
+        not is_last or any(CHARACTERS.get(it, it in lines) for it in parts))
+
+
 class Maker:
     """Makes random patterns and texts. The same seed and depth give the same ones."""
 
@@ -69,12 +90,21 @@ class Maker:
         """Takes the seed, and how deep groups may be in each other."""
         self.random, self.depth = random.Random(seed), depth
         self.names = 0
+        self.sided: List[Tuple[str, List[str]]] = []
 
     def look(self) -> str:
-        """Returns a random look, or an anchor."""
-        if self.random.random() < 0.3:
+        """Returns a random look, or an anchor; keeps what a look with anchors consists of in `sided`."""
+        kind = self.random.random()
+        if kind < 0.3:
             return self.random.choice(ANCHORS)
-        return self.random.choice(LOOKS) + self.random.choice(LOOKED) + ")"
+        opening = self.random.choice(LOOKS)
+        if kind < 0.6:
+            return opening + self.random.choice(LOOKED) + ")"
+        side = self.random.choice(["ahead", "behind"])
+        known = [it for it in EDGES if EDGES[it] == side or self.random.random() < 0.1]
+        parts = self.random.sample([*known, *self.random.sample(list(CHARACTERS), 3)], self.random.choice([1, 1, 2, 2, 2, 3]))
+        self.sided.append((opening, parts))
+        return opening + "|".join(parts) + ")"
 
     def piece(self, depth: int) -> str:
         """Returns a random look or anchor, or an atom or group; most of these have no quantifier."""
@@ -98,12 +128,14 @@ class Maker:
 
     def pairs(self) -> List[Pair]:
         """Returns pairs of a random pattern, which `re` may refuse, with random texts."""
-        pattern, self.names = self.choice(self.depth), 0
-        while len(pattern) > LONGEST_PATTERN:
-            pattern, self.names = self.choice(self.depth), 0
+        pattern = ""
+        while not 0 < len(pattern) <= LONGEST_PATTERN:
+            self.names, self.sided = 0, []
+            pattern = self.choice(self.depth)
         flags = "".join(it for it in "aimsx" if self.random.random() < 0.15)
         is_bytes = self.random.random() < 0.1
-        return [Pair(pattern, flags, is_bytes, self.text()) for _ in range(TEXTS_A_PATTERN)]
+        read = all(is_read(opening, parts, "m" in flags) for opening, parts in self.sided)
+        return [Pair(pattern, flags, is_bytes, self.text(), read) for _ in range(TEXTS_A_PATTERN)]
 
     def text(self) -> str:
         """Returns a random text; the empty one is rare."""
@@ -153,14 +185,16 @@ def said(question: Dict[str, Any]) -> str:
     return json.dumps(question, sort_keys=True)
 
 
-def wrong(asked: Asked, reply: Mapping[str, Any], has_look: bool) -> str:
+def wrong(asked: Asked, reply: Mapping[str, Any], pair: Pair) -> str:
     """Returns what is wrong with a reply, or ""."""
     kind = asked.question["ask"]
     if reply["answer"] == "error":
         return f"{said(asked.question)}: {reply.get('message')}"
     if reply["answer"] != kind:
-        return ""
-    if ("lookaround" in reply.get("beyond", ())) != has_look:
+        return f"{said(asked.question)}: a look is refused" if pair.is_read and reply.get("cause") == "lookaround" else ""
+    if not pair.is_read:
+        return f"{said(asked.question)}: a look is read"
+    if ("lookaround" in reply.get("beyond", ())) != pair.has_look:
         return f"{said(asked.question)}: beyond is {reply.get('beyond')}"
     given = reply["found"] if kind == "found" else reply["matched"]
     return "" if given == asked.wanted else f"{said(asked.question)}: re says {asked.wanted}, and relint-ask {given}"
@@ -216,7 +250,7 @@ def compare(seed: int, pairs: int, depth: int, seconds: float) -> int:
 
 def judged(one: Tried, both: List[Tuple[Asked, Mapping[str, Any]]], counts: "Counter[str]") -> List[str]:
     """Returns a line for each reply about a pair that is wrong, and counts the replies that say nothing, and the pair."""
-    lines = [line for it, reply in both for line in [wrong(it, reply, one.pair.has_look)] if line]
+    lines = [line for it, reply in both for line in [wrong(it, reply, one.pair)] if line]
     silent = [reply for it, reply in both if reply["answer"] != it.question["ask"]]
     for reply in silent:
         counts[f"replies {reply['answer']} {reply.get('cause', reply.get('limit', ''))}"] += 1

@@ -141,9 +141,6 @@ module _ (dollar : Dollar) (flags : Flags) (u : Universe) (w : List ℕ) where
         universe = h.pattern.universe ∙ sym k.pattern.universe;
       }
 
-  pub beyond_same : (found new : Pattern) → IsParsed flags u w (Ok found) → IsParsedBeyond dollar flags u w (Ok new) → IsSamePattern found new
-  beyond_same found new (p, h) (q, k) = same_as found new p q h k
-
   pub beyond_reads : (found : Pattern) (r : Result Pattern PatError) → IsParsed flags u w (Ok found) → IsParsedBeyond dollar flags u w r → (r ≡ Err error.OutOfMemory) ⊎ ((new : Pattern) × (r ≡ Ok new) × IsSamePattern found new)
   beyond_reads found (Ok new) (p, h) (q, k) = inr (new, refl, same_as found new p q h k)
   beyond_reads found (Err error.OutOfMemory) (p, h) k = inl refl

@@ -16,6 +16,9 @@ node_of-repeat s q n g b = search the_lemmas
 pub node_of-group : (s : t.Span) (k : t.Kind) (b : Box SyntaxNode Global) → node_of (V.Group s k b) ≡ t.group s k (node_of b.value)
 node_of-group s k b = search the_lemmas
 
+pub node_of-choice : (s : t.Span) (bs : List Branch) → node_of (V.Choice s bs) ≡ t.choice s (t.branches (map branch_of bs))
+node_of-choice s bs = search the_lemmas
+
 pub branch_of-fields : (b : Branch) → branch_of b ≡ record { place = b.place; body = node_of b.body }
 branch_of-fields b = search the_lemmas
 

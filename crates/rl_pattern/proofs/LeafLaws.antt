@@ -15,7 +15,8 @@ use Rattle.rl_pattern.specs.declared.flags.Flags.{Flags}
 use Rattle.rl_pattern.specs.Tree as t
 use Rattle.rl_pattern.specs.Tree.{Named, Span, Escaped, Member, Leaf}
 use Rattle.rl_pattern.specs.Codes.{no_flags}
-use Rattle.rl_pattern.specs.Shape.{is_text, some_below, closed_holds, within, leaf_codes, code_member, kind_member, members_hold}
+use Rattle.rl_pattern.specs.Shape.{is_text}
+use Rattle.rl_pattern.specs.LeafCodes.{some_below, closed_holds, within, leaf_codes, code_member, kind_member, members_hold}
 use Rattle.rl_pattern.specs.internal.LeafSets.{closing_in, kind_in, escaped_in, code_in, codes_in, class_in, classes_in, members_in, some_member}
 
 -- The result of a call, by what is known about it.

@@ -10,7 +10,8 @@ use Rattle.rl_pattern.specs.declared.flags.Flags.{Flags}
 use Rattle.rl_pattern.specs.Tree.{Span, Count, Greed, Escaped, code, too_large, by_name, kind, reference, Member, one, range, Leaf, any, glyph, members, Kind, capturing, named, scoped, lookaround, atomic, conditional, SyntaxNode, nodes, branches, Branch, branch_body, branch, whole_body}
 use Rattle.rl_pattern.specs.internal.LeafSets.{some_member}
 use Rattle.rl_pattern.specs.Found.{is_bound, Feature, fault_if, escaped_faults, member_faults, leaf_faults, count_faults, kind_faults, node_faults, nodes_faults, branches_faults, Called, node_names, nodes_names, branches_names, is_leading, trail_of, reversed, is_possessive, overlap, is_locale, is_flag_clash, is_repeat_too_large, is_repeat_order, is_possessive_count, is_reversed_range}
-use Rattle.rl_pattern.specs.Shape.{is_text, shape, shapes, branch_shapes, leaf_codes, within, code_member, kind_member, members_hold, closing}
+use Rattle.rl_pattern.specs.Shape.{is_text, shape, shapes, branch_shapes}
+use Rattle.rl_pattern.specs.LeafCodes.{leaf_codes, within, code_member, kind_member, members_hold, closing}
 use Rattle.rl_pattern.specs.Cut.{choice_of, remaining, remaining_items, remaining_branches}
 use Rattle.rl_pattern.specs.internal.Left.{moved_member, moved_leaf}
 use Rattle.rl_pattern.proofs.Holes.{drops_in}

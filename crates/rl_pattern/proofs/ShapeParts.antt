@@ -3,6 +3,7 @@ use Rattle.std.proofs.Common.{◌≡◌, ℕ, Bool, true, false, not, nat_lt, �
 use Rattle.std.specs.Prelude.{if◌then◌else◌}
 use Rattle.std.proofs.lemmas.Bool.{and_parts, ltb-true, ltb-false, cond_both, true≢false}
 use Rattle.std.proofs.lemmas.Bool.Decides.{nat_tests}
+use Rattle.std.proofs.Math.Bool.{xor}
 use Rattle.rl_ranges.specs.Codes.{has}
 use Rattle.rl_ranges.specs.Listed.{ranges_below}
 use Rattle.rl_ranges.specs.Text.{code_count}
@@ -20,7 +21,9 @@ use Rattle.rl_pattern.specs.declared.flags.Flags.{Flags}
 use Rattle.rl_pattern.specs.Tree.{Span, Count, Greed, Leaf, Assertion, caret, text_start, dollar, text_end, boundary, Kind, capturing, named, scoped, lookaround, atomic, conditional, SyntaxNode, leaf, mark, repeat, group, nothing, seq, choice, Nodes, no_nodes, more_nodes, Branches, no_branches, more_branches}
 use Rattle.rl_pattern.specs.Found.{is_bound, Fault, Feature, fault_if, comes_first, earlier, first_fault, is_possessive, count_faults, kind_faults, mark_faults, reads_look, is_end, node_faults_in, nodes_faults_in, branches_faults_in, is_repeat_too_large, is_repeat_order, is_possessive_count, is_inner_anchor}
 use Rattle.rl_pattern.specs.Profile.{Dollar, Refused, Dropped, LastLine, Profile, Narrow, Wide, before_end, for_item, reads_dollar}
-use Rattle.rl_pattern.specs.Shape.{is_text, leaf_codes, mark_shape, mark_shape_in, dollar_shape, character_codes, look_shape, group_shape, shape_in, shapes_in, branch_shapes_in}
+use Rattle.rl_pattern.specs.Shape.{is_text, mark_shape, mark_shape_in, dollar_shape, look_shape, group_shape, shape_in, shapes_in, branch_shapes_in}
+use Rattle.rl_pattern.specs.LeafCodes.{leaf_codes}
+use Rattle.rl_pattern.specs.Looks.{holds_beside}
 use Rattle.rl_pattern.proofs.LeafLaws.{ascii_rule}
 
 -- If there is no first fault, there is no fault.
@@ -84,7 +87,7 @@ group_part u place (lookaround b n) t e h = absurd (cc e)
 group_part u place atomic t e h = absurd (cc e)
 group_part u place conditional t e h = absurd (cc e)
 
-line_feed_lies : (u : Universe) → LiesIn u is_line_feed
+pub line_feed_lies : (u : Universe) → LiesIn u is_line_feed
 line_feed_lies Str code h = grind (arith, nat_tests, h)
 line_feed_lies Bytes code h = grind (arith, nat_tests, h)
 
@@ -113,7 +116,7 @@ look_part Narrow u place k p z = absurd (true≢false (sym z))
 look_part (Wide d) u place capturing p z = absurd (true≢false (sym z))
 look_part (Wide d) u place (named n) p z = absurd (true≢false (sym z))
 look_part (Wide d) u place (scoped on off) p z = absurd (true≢false (sym z))
-look_part (Wide d) u place (lookaround b n) p z = listed_lies u (character_codes u p)
+look_part (Wide d) u place (lookaround b n) p z = listed_lies u (λ c. xor (holds_beside u p None) (holds_beside u p (Some c)))
 look_part (Wide d) u place atomic p z = absurd (true≢false (sym z))
 look_part (Wide d) u place conditional p z = absurd (true≢false (sym z))
 

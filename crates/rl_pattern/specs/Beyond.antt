@@ -1,8 +1,9 @@
--- The result of parsing by a wide profile, which reads more than `parse` does: lookarounds of one character, and a `$` without
--- MULTILINE that ends the pattern (`Profile.antt`). What is refused then is in `Found.antt`, and what a pattern becomes in
--- `Shape.antt`. The codes spell the same syntax trees, and all errors except for `Outside` are those of `parse`
--- (`Parsed.antt`). A fault is a feature that is refused, with its position. In all definitions, `dollar` says what becomes of
--- the `$`, `flags` are the flags of the call, `u` is the universe, and `w` the list of codes.
+-- The result of parsing by a wide profile, which reads more than `parse` does: lookarounds that test one side of a place, and
+-- a `$` without MULTILINE that ends the pattern (`Profile.antt`). What is refused then is in `Found.antt`, what a lookaround
+-- says is in `Looks.antt`, and what a pattern becomes is in `Shape.antt`. The codes spell the same syntax trees, and all
+-- errors except for `Outside` are those of `parse` (`Parsed.antt`). A fault is a feature that is refused, with its position.
+-- In all definitions, `dollar` says what becomes of the `$`, `flags` are the flags of the call, `u` is the universe, and `w`
+-- the list of codes.
 use Rattle.std.specs.Prelude.{◌≡◌, ◌⊎◌, ℕ, ◌<◌, List, length, Some, None, Result, Ok, Err}
 use Rattle.rl_ranges.specs.declared.universe.Universe.{Universe}
 use Rattle.rl_syntax.specs.declared.feature.Feature.{Feature}

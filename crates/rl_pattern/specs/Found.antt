@@ -12,9 +12,11 @@ pub use Rattle.rl_syntax.specs.declared.feature.Feature.TheVariants.{Locale as i
 pub use Rattle.rl_syntax.specs.declared.anchors.Trail.{Trail}
 pub use Rattle.rl_syntax.specs.declared.anchors.Trail.TheVariants.{None as no_trail, Dollar as dollar_trail, End as end_trail}
 pub use Rattle.rl_pattern.specs.declared.faults.Fault.{Fault}
-use Rattle.rl_pattern.specs.Tree.{Span, Count, Greed, possessive, Escaped, code, too_large, by_name, reference, Member, one, range, Leaf, any, glyph, members, Assertion, caret, text_start, dollar, text_end, Kind, named, scoped, lookaround, atomic, conditional, SyntaxNode, leaf, mark, repeat, group, nothing, seq, choice, Nodes, no_nodes, more_nodes, Branches, no_branches, more_branches, branch_body, Front, Whole}
+use Rattle.rl_pattern.specs.Tree.{Span, Count, Greed, possessive, Escaped, code, too_large, by_name, reference, Member, one, range, Leaf, any, glyph, members, Assertion, caret, text_start, dollar, text_end, boundary, Kind, named, scoped, lookaround, atomic, conditional, SyntaxNode, leaf, mark, repeat, group, nothing, seq, choice, Nodes, no_nodes, more_nodes, Branches, no_branches, more_branches, branch_body, Front, Whole}
 use Rattle.rl_pattern.specs.Codes.{joined}
 use Rattle.rl_pattern.specs.Profile.{Profile, Narrow, Wide, before_end, for_item, for_body, reads_dollar}
+use Rattle.rl_pattern.specs.LeafCodes.{universe_for}
+use Rattle.rl_pattern.specs.Looks.{holds_beside}
 
 -- The rank of a feature. Of two features at the same position, the one with the lower rank is reported.
 abbrev pub rank : Feature → ℕ
@@ -126,25 +128,73 @@ abbrev pub is_scoped : Kind → Bool
 is_scoped (scoped on off) = true
 is_scoped _ = false
 
--- Whether the body of a lookaround is one character and nothing in it is refused. It is a leaf, a group that doesn't capture
--- around such a body, or a choice between such bodies. `text` says whether the pattern is a `str`.
-abbrev mutual
-  pub is_character : Bool → SyntaxNode → Bool
-  is_character text (leaf s f x) = is_none (first_fault (leaf_faults s x))
-  is_character text (group s k p) = is_scoped k && (is_none (first_fault (kind_faults text s.from k)) && is_character text p)
-  is_character text (choice s bs) = are_characters text bs
-  is_character text _ = false
+-- Whether an anchor looks to this side of a place: behind it if the flag is `true`, otherwise ahead. `^` and `\A` look behind,
+-- `$` and `\Z` ahead. A word boundary looks to both sides and counts as `false`.
+abbrev pub mark_looks : Bool → Assertion → Bool
+mark_looks behind caret = behind
+mark_looks behind text_start = behind
+mark_looks behind dollar = not behind
+mark_looks behind text_end = not behind
+mark_looks behind (boundary negated) = false
 
-  -- Whether each branch of a choice is one character and nothing in it is refused.
-  pub are_characters : Bool → Branches → Bool
-  are_characters text no_branches = true
-  are_characters text (more_branches s p bs) = is_character text p && are_characters text bs
+-- Whether the body of a lookaround tests no more than this side of a place, and nothing in it is refused: behind the place if
+-- the flag `behind` is `true`, otherwise ahead. The body is a leaf, an anchor, a group that doesn't capture around such a body,
+-- or a choice between such bodies. A leaf looks to the lookaround's own side, and `own` says whether that is behind. `text`
+-- says whether the pattern is a `str`.
+abbrev mutual
+  pub looks_to : Bool → Bool → Bool → SyntaxNode → Bool
+  looks_to text own behind (leaf s f x) = is_none (first_fault (leaf_faults s x)) && (if own then behind else not behind)
+  looks_to text own behind (mark s f m) = mark_looks behind m
+  looks_to text own behind (group s k p) = is_scoped k && (is_none (first_fault (kind_faults text s.from k)) && looks_to text own behind p)
+  looks_to text own behind (choice s bs) = all_look_to text own behind bs
+  looks_to text own behind _ = false
+
+  -- Whether the body of each branch does so.
+  pub all_look_to : Bool → Bool → Bool → Branches → Bool
+  all_look_to text own behind no_branches = true
+  all_look_to text own behind (more_branches s p bs) = looks_to text own behind p && all_look_to text own behind bs
+
+-- Whether the body of a lookaround has a `$` without MULTILINE.
+abbrev mutual
+  pub has_dollar : SyntaxNode → Bool
+  has_dollar (mark s f dollar) = not f.multiline
+  has_dollar (group s k p) = has_dollar p
+  has_dollar (choice s bs) = some_dollar bs
+  has_dollar _ = false
+
+  -- Whether the body of some branch has one.
+  pub some_dollar : Branches → Bool
+  some_dollar no_branches = false
+  some_dollar (more_branches s p bs) = has_dollar p || some_dollar bs
+
+-- Whether each way through the body of a lookaround is of one width: one character if the flag is `true`, otherwise none. An
+-- anchor has no width.
+abbrev mutual
+  pub is_wide : Bool → SyntaxNode → Bool
+  is_wide wide (leaf s f x) = wide
+  is_wide wide (mark s f m) = not wide
+  is_wide wide (group s k p) = is_wide wide p
+  is_wide wide (choice s bs) = all_wide wide bs
+  is_wide wide _ = false
+
+  -- Whether the body of each branch is so.
+  pub all_wide : Bool → Branches → Bool
+  all_wide wide no_branches = true
+  all_wide wide (more_branches s p bs) = is_wide wide p && all_wide wide bs
+
+-- Whether a lookaround with the body `p` is read. `own` says whether it looks behind. Its body tests one side of a place and no
+-- more, and a lookbehind must be of one width. A `$` without MULTILINE holds at the end of the text and before a line feed that
+-- ends it, but one side of a place doesn't tell whether a line feed ends the text. So a body with such a `$` is read only if it
+-- holds before each line feed.
+abbrev pub tests_a_side : Bool → Bool → SyntaxNode → Bool
+tests_a_side text own p =
+    (looks_to text own true p || looks_to text own false p) && ((not own || (is_wide true p || is_wide false p)) && (not (has_dollar p) || holds_beside (universe_for text) p (Some 10)))
 
 -- Whether a group of this kind with the body `p` is a lookaround that the profile reads. `text` says whether the pattern is a
 -- `str`.
 abbrev pub reads_look : Profile → Bool → Kind → SyntaxNode → Bool
 reads_look Narrow text k p = false
-reads_look (Wide d) text (lookaround behind negated) p = is_character text p
+reads_look (Wide d) text (lookaround behind negated) p = tests_a_side text behind p
 reads_look (Wide d) text _ p = false
 
 -- Whether there are no further nodes.

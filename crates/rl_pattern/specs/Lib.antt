@@ -3,6 +3,8 @@ pub mod Codes
 pub mod Grammar
 pub mod Viable
 pub mod Profile
+pub mod LeafCodes
+pub mod Looks
 pub mod Found
 pub mod Answers
 pub mod Parsed

@@ -1,7 +1,8 @@
 -- Profiles: what the parser reads of a pattern. `parse` goes by the narrow profile: it reads no lookaround, and no `$` without
--- MULTILINE except for the outer anchors. `parse_beyond` goes by a wide one: it reads lookarounds of one character too, and a
--- `$` without MULTILINE that ends the pattern inside a group or a branch of a choice. What becomes of that `$` is part of the
--- profile. A part is a node of the pattern's body with everything in it, and it ends the pattern if nothing follows it.
+-- MULTILINE except for the outer anchors. `parse_beyond` goes by a wide one: it also reads lookarounds that test one side of a
+-- place, and a `$` without MULTILINE that ends the pattern inside a group or a branch of a choice. What becomes of that `$` is
+-- part of the profile. A part is a node of the pattern's body with everything in it, and it ends the pattern if nothing
+-- follows it.
 use Rattle.std.specs.Prelude.{Bool, true, false}
 pub use Rattle.rl_syntax.specs.declared.anchors.Trail.{Trail}
 pub use Rattle.rl_syntax.specs.declared.anchors.Trail.TheVariants.{None as no_trail, Dollar as dollar_trail, End as end_trail}

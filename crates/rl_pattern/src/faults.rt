@@ -1,17 +1,22 @@
 //! What is refused in a syntax tree: the first fault by position, and by the order of features at the same position. A fault
 //! is a feature that is refused, with its position. The rank of a feature is its place in that order.
 
-ghost use Rattle.std.specs.Prelude.{◌≡◌, ℕ, Bool, List, map, ◌||◌, ◌&&◌, ◌==◌, nat_lt, flat_map};
+ghost use Rattle.std.specs.Prelude.{◌≡◌, ℕ, Bool, IfOk, List, map, ◌||◌, ◌&&◌, ◌==◌, nat_lt, flat_map};
 ghost use Rattle.rl_pattern.specs.internal.Views.{node_of, branch_of};
 ghost use Rattle.rl_pattern.specs.Tree as t;
+ghost use Rattle.rl_pattern.specs.LeafCodes.{universe_for};
 ghost use Rattle.rl_pattern.specs.Found as f;
 
 use crate::flags::{Flags, joined};
+use crate::leaf_set::body_set;
 use crate::profile::{Profile, before_end, for_item, reads_dollar};
 use crate::tree::{
     Assertion, Branch, Count, Escaped, Front, Greed, Kind, Leaf, Member, SyntaxNode,
 };
+use rl_lists::OutOfMemory;
+use rl_ranges::Universe;
 use rl_syntax::{Feature, Span};
+use std::alloc::Global;
 
 /// A feature that is refused, with its position.
 #[derive(Clone, Copy)]
@@ -257,113 +262,245 @@ fn is_scoped(kind: &Kind) -> bool
     }
 }
 
-/// Whether the body of a lookaround is one character and nothing in it is refused. `text` says whether the pattern is a `str`.
-#[cycle(is_character)]
-fn is_character(text: bool, node: &SyntaxNode) -> bool
-    ensures { result ≡ f.is_character text (node_of node.now) }
+/// Whether an anchor looks to this side of a place: behind it if `behind` is set, otherwise ahead. A word boundary looks to
+/// both sides and counts as `false`.
+fn mark_looks(behind: bool, mark: Assertion) -> bool
+    ensures { result ≡ f.mark_looks behind mark }
+{
+    match mark {
+        Assertion::Caret | Assertion::TextStart => behind,
+        Assertion::Dollar | Assertion::TextEnd => !behind,
+        Assertion::Boundary(_) => false,
+    }
+}
+
+/// Whether the body of a lookaround tests no more than this side of a place, and nothing in it is refused: behind the place if
+/// `behind` is set, otherwise ahead. `own` says whether the lookaround looks behind, and `text` whether the pattern is a `str`.
+#[cycle(looks_to)]
+pub(crate) fn looks_to(text: bool, own: bool, behind: bool, node: &SyntaxNode) -> bool
+    ensures { result ≡ f.looks_to text own behind (node_of node.now) }
 {
     match node {
-        SyntaxNode::Leaf(span, _, leaf) => leaf_fault(*span, leaf).is_none(),
+        SyntaxNode::Leaf(span, _, leaf) => {
+            leaf_fault(*span, leaf).is_none() && (if own { behind } else { !behind })
+        }
+        SyntaxNode::Assertion(_, _, mark) => mark_looks(behind, *mark),
         SyntaxNode::Group(span, kind, body) => {
             is_scoped(kind)
                 && kind_fault(text, span.from, kind).is_none()
-                && is_character(text, body)
+                && looks_to(text, own, behind, body)
         }
-        SyntaxNode::Choice(_, branches) => are_characters(text, branches.as_slice()),
+        SyntaxNode::Choice(_, branches) => all_look_to(text, own, behind, branches.as_slice()),
+        SyntaxNode::Repeat(_, _, _, _, _) | SyntaxNode::Nothing(_) | SyntaxNode::Seq(_, _) => false,
+    }
+}
+
+/// Whether the body of each branch tests no more than this side of a place, and nothing in it is refused.
+#[cycle(looks_to)]
+fn all_look_to(text: bool, own: bool, behind: bool, branches: &[Branch]) -> bool
+    ensures { result ≡ f.all_look_to text own behind (t.branches (map branch_of branches.now)) }
+{
+    let mut all = true;
+    for branch in branches {
+        all = all && looks_to(text, own, behind, &branch.body);
+    }
+    all
+}
+
+/// Whether the body of a lookaround has a `$` without MULTILINE.
+#[cycle(has_dollar)]
+fn has_dollar(node: &SyntaxNode) -> bool
+    ensures { result ≡ f.has_dollar (node_of node.now) }
+{
+    match node {
+        SyntaxNode::Assertion(_, flags, Assertion::Dollar) => !flags.multiline,
+        SyntaxNode::Group(_, _, body) => has_dollar(body),
+        SyntaxNode::Choice(_, branches) => some_dollar(branches.as_slice()),
         SyntaxNode::Assertion(_, _, _)
+        | SyntaxNode::Leaf(_, _, _)
         | SyntaxNode::Repeat(_, _, _, _, _)
         | SyntaxNode::Nothing(_)
         | SyntaxNode::Seq(_, _) => false,
     }
 }
 
-/// Whether each branch of a choice is one character and nothing in it is refused.
-#[cycle(is_character)]
-fn are_characters(text: bool, branches: &[Branch]) -> bool
-    ensures { result ≡ f.are_characters text (t.branches (map branch_of branches.now)) }
+/// Whether the body of some branch has a `$` without MULTILINE.
+#[cycle(has_dollar)]
+fn some_dollar(branches: &[Branch]) -> bool
+    ensures { result ≡ f.some_dollar (t.branches (map branch_of branches.now)) }
+{
+    let mut some = false;
+    for branch in branches {
+        some = some || has_dollar(&branch.body);
+    }
+    some
+}
+
+/// Whether each way through the body of a lookaround is of one width: one character if `wide` is set, otherwise none.
+#[cycle(is_wide)]
+fn is_wide(wide: bool, node: &SyntaxNode) -> bool
+    ensures { result ≡ f.is_wide wide (node_of node.now) }
+{
+    match node {
+        SyntaxNode::Leaf(_, _, _) => wide,
+        SyntaxNode::Assertion(_, _, _) => !wide,
+        SyntaxNode::Group(_, _, body) => is_wide(wide, body),
+        SyntaxNode::Choice(_, branches) => all_wide(wide, branches.as_slice()),
+        SyntaxNode::Repeat(_, _, _, _, _) | SyntaxNode::Seq(_, _) | SyntaxNode::Nothing(_) => false,
+    }
+}
+
+/// Whether the body of each branch is of that width.
+#[cycle(is_wide)]
+fn all_wide(wide: bool, branches: &[Branch]) -> bool
+    ensures { result ≡ f.all_wide wide (t.branches (map branch_of branches.now)) }
 {
     let mut all = true;
     for branch in branches {
-        all = all && is_character(text, &branch.body);
+        all = all && is_wide(wide, &branch.body);
     }
     all
 }
 
+/// Returns the universe of a pattern. `text` says whether it is a `str`.
+fn universe_for(text: bool) -> Universe
+    ensures { result ≡ universe_for text }
+{
+    if text { Universe::Str } else { Universe::Bytes }
+}
+
+/// Whether a lookaround with this body is read: the body tests one side of a place, a lookbehind is of one width, and a body
+/// with a `$` without MULTILINE holds before each line feed. `own` says whether the lookaround looks behind, and `text` whether
+/// the pattern is a `str`.
+fn tests_a_side(
+    alloc: Global,
+    text: bool,
+    own: bool,
+    body: &SyntaxNode,
+) -> Result<bool, OutOfMemory>
+    ensures { IfOk result (λ reads. reads ≡ f.tests_a_side text own (node_of body.now)) }
+{
+    if !looks_to(text, own, true, body) && !looks_to(text, own, false, body) {
+        return Ok(false);
+    }
+    if own && !is_wide(true, body) && !is_wide(false, body) {
+        return Ok(false);
+    }
+    if !has_dollar(body) {
+        return Ok(true);
+    }
+    let set = body_set(alloc, universe_for(text), body)?;
+    Ok(set.contains(10))
+}
+
 /// Whether a group of this kind with this body is a lookaround that the profile reads. `text` says whether the pattern is a
 /// `str`.
-pub(crate) fn reads_look(profile: Profile, text: bool, kind: &Kind, body: &SyntaxNode) -> bool
-    ensures { result ≡ f.reads_look profile text kind.now (node_of body.now) }
+///
+/// # Errors
+/// [`OutOfMemory`] if there is no memory for a set.
+pub(crate) fn reads_look(
+    alloc: Global,
+    profile: Profile,
+    text: bool,
+    kind: &Kind,
+    body: &SyntaxNode,
+) -> Result<bool, OutOfMemory>
+    ensures { IfOk result (λ reads. reads ≡ f.reads_look profile text kind.now (node_of body.now)) }
 {
     match profile {
-        Profile::Narrow => false,
+        Profile::Narrow => Ok(false),
         Profile::Wide(_) => match kind {
-            Kind::Lookaround { .. } => is_character(text, body),
+            Kind::Lookaround { behind, .. } => tests_a_side(alloc, text, *behind, body),
             Kind::Capturing
             | Kind::Named(_)
             | Kind::Scoped(_, _)
             | Kind::Atomic
-            | Kind::Conditional => false,
+            | Kind::Conditional => Ok(false),
         },
     }
 }
 
 /// Returns the fault of a node and the nodes in it that is reported, apart from duplicate group names, or `None` if nothing is
 /// refused under the profile. `text` says whether the pattern is a `str`.
+///
+/// # Errors
+/// [`OutOfMemory`] if there is no memory for a set.
 #[cycle(node_fault)]
 #[tactic(auto, using(crate::proofs::FirstFault::first_of_joined))]
-pub(crate) fn node_fault(profile: Profile, text: bool, node: &SyntaxNode) -> Option<Fault>
-    ensures { result ≡ f.first_fault (f.node_faults_in profile text (node_of node.now)) }
+pub(crate) fn node_fault(
+    alloc: Global,
+    profile: Profile,
+    text: bool,
+    node: &SyntaxNode,
+) -> Result<Option<Fault>, OutOfMemory>
+    ensures { IfOk result (λ found. found ≡ f.first_fault (f.node_faults_in profile text (node_of node.now))) }
 {
     match node {
-        SyntaxNode::Leaf(span, _, leaf) => leaf_fault(*span, leaf),
+        SyntaxNode::Leaf(span, _, leaf) => Ok(leaf_fault(*span, leaf)),
         SyntaxNode::Assertion(span, flags, mark) => {
             if reads_dollar(profile) {
-                None
+                Ok(None)
             } else {
-                mark_fault(*span, *flags, *mark)
+                Ok(mark_fault(*span, *flags, *mark))
             }
         }
         SyntaxNode::Repeat(_, mark, count, greed, body) => {
             let own = count_fault(mark.from, *count, *greed);
-            earlier(own, node_fault(before_end(profile), text, body))
+            let inside = node_fault(alloc, before_end(profile), text, body)?;
+            Ok(earlier(own, inside))
         }
         SyntaxNode::Group(span, kind, body) => {
-            if reads_look(profile, text, kind, body) {
-                None
+            if reads_look(alloc, profile, text, kind, body)? {
+                Ok(None)
             } else {
                 let own = kind_fault(text, span.from, kind);
-                earlier(own, node_fault(profile, text, body))
+                let inside = node_fault(alloc, profile, text, body)?;
+                Ok(earlier(own, inside))
             }
         }
-        SyntaxNode::Nothing(_) => None,
-        SyntaxNode::Seq(_, items) => nodes_fault(profile, text, items.as_slice()),
-        SyntaxNode::Choice(_, branches) => branches_fault(profile, text, branches.as_slice()),
+        SyntaxNode::Nothing(_) => Ok(None),
+        SyntaxNode::Seq(_, items) => nodes_fault(alloc, profile, text, items.as_slice()),
+        SyntaxNode::Choice(_, branches) => {
+            branches_fault(alloc, profile, text, branches.as_slice())
+        }
     }
 }
 
 /// Returns the first fault in a sequence of nodes. Only the last one may end the pattern.
 #[cycle(node_fault)]
-fn nodes_fault(profile: Profile, text: bool, nodes: &[SyntaxNode]) -> Option<Fault>
-    ensures { result ≡ f.first_fault (f.nodes_faults_in profile text (t.nodes (map node_of nodes.now))) }
+fn nodes_fault(
+    alloc: Global,
+    profile: Profile,
+    text: bool,
+    nodes: &[SyntaxNode],
+) -> Result<Option<Fault>, OutOfMemory>
+    ensures { IfOk result (λ found. found ≡ f.first_fault (f.nodes_faults_in profile text (t.nodes (map node_of nodes.now)))) }
 {
     let mut best = None;
     for (place, node) in nodes.iter().enumerate() {
         let own = for_item(profile, place + 1 == nodes.len());
-        best = earlier(best, node_fault(own, text, node));
+        let next = node_fault(alloc, own, text, node)?;
+        best = earlier(best, next);
     }
-    best
+    Ok(best)
 }
 
 /// Returns the first fault in the branches of a choice.
 #[cycle(node_fault)]
-fn branches_fault(profile: Profile, text: bool, branches: &[Branch]) -> Option<Fault>
-    ensures { result ≡ f.first_fault (f.branches_faults_in profile text (t.branches (map branch_of branches.now))) }
+fn branches_fault(
+    alloc: Global,
+    profile: Profile,
+    text: bool,
+    branches: &[Branch],
+) -> Result<Option<Fault>, OutOfMemory>
+    ensures { IfOk result (λ found. found ≡ f.first_fault (f.branches_faults_in profile text (t.branches (map branch_of branches.now)))) }
 {
     let mut best = None;
     for branch in branches {
-        best = earlier(best, node_fault(profile, text, &branch.body));
+        let next = node_fault(alloc, profile, text, &branch.body)?;
+        best = earlier(best, next);
     }
-    best
+    Ok(best)
 }
 
 /// Returns the first fault of a flag group at the front, given the flags before it. `text` says whether the pattern is a

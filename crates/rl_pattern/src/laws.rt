@@ -2,19 +2,27 @@
 //! the laws. Codes spell a syntax tree by the grammar. A suggestion for a pattern drops branches and removes quantifiers. A
 //! guard is an anchor, a word boundary or a lookaround.
 
-ghost use Rattle.std.specs.Prelude.{◌≡◌, ◌⊎◌, ℕ, Bool, true, false, List, [], length, Result, Ok, Err};
+ghost use Rattle.std.specs.Prelude.{◌≡◌, ◌⊎◌, ℕ, ◌<◌, Bool, true, false, if◌then◌else◌, List, [], length, Option, Some, IfSome, Result, Ok, Err};
+ghost use Rattle.std.proofs.Math.Bool.{xor};
 ghost use Rattle.rl_ranges.specs.declared.universe.Universe.{Universe};
+ghost use Rattle.rl_ranges.specs.Text.{code_count};
 ghost use Rattle.rl_syntax.specs.declared.span.Span.{Span};
+ghost use Rattle.rl_syntax.specs.declared.anchors.Guard.{Guard};
+ghost use Rattle.rl_syntax.specs.Guards.{holds};
 ghost use Rattle.rl_syntax.specs.declared.pattern.Pattern.{Pattern};
 ghost use Rattle.rl_syntax.specs.declared.re.Mode.{Mode};
 ghost use Rattle.rl_syntax.specs.Pattern.{body_of, pattern_tree};
-ghost use Rattle.rl_syntax.specs.Tree.{has_look};
+ghost use Rattle.rl_syntax.specs.Tree.{guard, has_look};
 ghost use Rattle.rl_syntax.specs.Lowering.{lowered};
 ghost use Rattle.rl_syntax.specs.SameSpans.{SameSpans};
 ghost use Rattle.rl_pattern.specs.declared.flags.Flags.{Flags};
 ghost use Rattle.rl_pattern.specs.declared.parsing.PatError.{PatError};
 ghost use Rattle.rl_pattern.specs.declared.parsing.PatError.TheVariants as error;
-ghost use Rattle.rl_pattern.specs.Tree.{Whole};
+ghost use Rattle.rl_pattern.specs.Tree.{Whole, SyntaxNode, lookaround};
+ghost use Rattle.rl_pattern.specs.LeafCodes.{is_text};
+ghost use Rattle.rl_pattern.specs.Looks.{holds_beside};
+ghost use Rattle.rl_pattern.specs.Found.{looks_to, has_dollar, tests_a_side};
+ghost use Rattle.rl_pattern.specs.Shape.{look_shape};
 ghost use Rattle.rl_pattern.specs.Grammar.{Spells};
 ghost use Rattle.rl_pattern.specs.Parsed.{IsParsed};
 ghost use Rattle.rl_pattern.specs.Beyond.{Dollar, IsParsedBeyond};
@@ -38,14 +46,26 @@ pub fn parsed_once()
         → (r ≡ Err error.OutOfMemory) ⊎ ((s ≡ Err error.OutOfMemory) ⊎ IsSameAnswer r s) }
 {}
 
-/// States that the wider grammar extends the narrower one. If `parse` returns a pattern, `parse_beyond` returns the same pattern,
-/// whatever becomes of a `$`, unless it runs out of memory.
+/// States that the wider grammar extends the narrower one. If `parse` returns a pattern, `parse_beyond` returns the same
+/// pattern, whatever becomes of a `$`, unless it runs out of memory.
 pub fn beyond_extends()
-    ensures same { (dollar : Dollar) (flags : Flags) (u : Universe) (w : List ℕ) (found new : Pattern) → IsParsed flags u w (Ok found)
-        → IsParsedBeyond dollar flags u w (Ok new) → IsSamePattern found new }
-    ensures reads { (dollar : Dollar) (flags : Flags) (u : Universe) (w : List ℕ) (found : Pattern) (r : Result Pattern PatError)
+    ensures { (dollar : Dollar) (flags : Flags) (u : Universe) (w : List ℕ) (found : Pattern) (r : Result Pattern PatError)
         → IsParsed flags u w (Ok found) → IsParsedBeyond dollar flags u w r
         → (r ≡ Err error.OutOfMemory) ⊎ ((new : Pattern) × (r ≡ Ok new) × IsSamePattern found new) }
+{}
+
+/// States what a lookaround that is read stands for. All parts of its body look to one side of a place, behind it or ahead,
+/// and it becomes a guard that looks there. The guard holds if the body holds with what is on that side, which is a character
+/// of the universe or, at that end of the text, none. If the lookaround is negated, the guard holds if the body doesn't. A
+/// body with a `$` without MULTILINE holds before each line feed, so nothing depends on whether the line feed ends the text.
+pub fn looks_mean_their_bodies()
+    ensures guard { (u : Universe) (place : Span) (behind negated : Bool) (p : SyntaxNode)
+        → (g : Guard) × (lowered (look_shape u place (lookaround behind negated) p) ≡ guard g)
+        × ((before next seen : Option ℕ) → seen ≡ (if looks_to (is_text u) behind true p then before else next) → IfSome seen (λ c. c < code_count u)
+        → holds g before next ≡ xor negated (holds_beside u p seen)) }
+    ensures side { (text behind : Bool) (p : SyntaxNode) → tests_a_side text behind p ≡ true → looks_to text behind (looks_to text behind true p) p ≡ true }
+    ensures line_feed { (u : Universe) (behind : Bool) (p : SyntaxNode) → tests_a_side (is_text u) behind p ≡ true → has_dollar p ≡ true
+        → holds_beside u p (Some 10) ≡ true }
 {}
 
 /// States that the tree of a pattern that `parse` returns has no lookaround, in any mode.

@@ -1,17 +1,20 @@
-//! The characters that a leaf of a syntax tree matches, or the body of a lookaround of one character. A leaf is a `.`, a character, an escape, a reference or a class.
+//! The characters that a leaf of a syntax tree matches, and those for which the body of a lookaround holds. A leaf is a `.`, a
+//! character, an escape, a reference or a class.
 
-ghost use Rattle.std.specs.Prelude.{◌≡◌, ℕ, Bool, ◌&&◌, ◌||◌, ◌==◌, not, IfOk, false, map};
+ghost use Rattle.std.specs.Prelude.{◌≡◌, ℕ, Bool, ◌&&◌, ◌||◌, ◌==◌, not, IfOk, Some, None, false, map};
+ghost use Rattle.std.proofs.Math.Bool.{xor};
 ghost use Rattle.rl_ranges.specs.Codes.{has, is_between, IsInside};
 ghost use Rattle.rl_ranges.specs.Listed.{ranges_below};
 ghost use Rattle.rl_ranges.specs.Text.{code_count};
 ghost use Rattle.rl_pattern.specs.Tree as t;
 ghost use Rattle.rl_pattern.specs.Tree.{Span, any, range};
-ghost use Rattle.rl_pattern.specs.Shape.{within, leaf_codes, character_codes, branches_codes};
+ghost use Rattle.rl_pattern.specs.LeafCodes.{within, leaf_codes};
+ghost use Rattle.rl_pattern.specs.Looks.{is_line_end, mark_beside, holds_beside, some_beside};
 ghost use Rattle.rl_pattern.specs.internal.Views.{node_of, branch_of};
 ghost use Rattle.rl_pattern.specs.internal.LeafSets.{closing_in, kind_in, escaped_in, code_in, codes_in, class_in, classes_in, members_in};
 
 use crate::flags::Flags;
-use crate::tree::{Branch, Escaped, Leaf, Member, SyntaxNode};
+use crate::tree::{Assertion, Branch, Escaped, Leaf, Member, SyntaxNode};
 use rl_lists::OutOfMemory;
 use rl_ranges::{CodeSet, Named, Universe};
 use std::alloc::Global;
@@ -221,30 +224,58 @@ pub(crate) fn leaf_set(
     }
 }
 
-/// Returns the set of the codes that the body of a lookaround matches, if it is one character.
-#[cycle(body_set)]
-fn body_set(alloc: Global, universe: Universe, node: &SyntaxNode) -> Result<CodeSet, OutOfMemory>
-    ensures { IfOk result (λ s. (c : ℕ) → has s c ≡ character_codes universe (node_of node.now) c) }
+/// Returns the set of the characters that end a line: the line feed with MULTILINE, otherwise none.
+fn line_ends(alloc: Global, multiline: bool) -> Result<CodeSet, OutOfMemory>
+    ensures { IfOk result (λ s. (c : ℕ) → has s c ≡ is_line_end multiline (Some c)) }
 {
-    match node {
-        SyntaxNode::Leaf(_, flags, leaf) => leaf_set(alloc, universe, *flags, leaf),
-        SyntaxNode::Group(_, _, body) => body_set(alloc, universe, body),
-        SyntaxNode::Choice(_, branches) => branches_set(alloc, universe, branches.as_slice()),
-        SyntaxNode::Assertion(_, _, _)
-        | SyntaxNode::Repeat(_, _, _, _, _)
-        | SyntaxNode::Nothing(_)
-        | SyntaxNode::Seq(_, _) => Ok(no_codes(alloc)),
+    if multiline {
+        CodeSet::range(alloc, 10, 10)
+    } else {
+        Ok(no_codes(alloc))
     }
 }
 
-/// Returns the set of the codes that some branch of a choice in the body of a lookaround matches.
+/// Returns the set of the characters beside which an anchor holds.
+fn mark_set(alloc: Global, flags: Flags, mark: Assertion) -> Result<CodeSet, OutOfMemory>
+    ensures { IfOk result (λ s. (c : ℕ) → has s c ≡ mark_beside flags mark (Some c)) }
+{
+    match mark {
+        Assertion::Caret | Assertion::Dollar => line_ends(alloc, flags.multiline),
+        Assertion::TextStart | Assertion::TextEnd | Assertion::Boundary(_) => Ok(no_codes(alloc)),
+    }
+}
+
+/// Returns the set of the characters beside which the body of a lookaround holds.
+///
+/// # Errors
+/// [`OutOfMemory`] if there is no memory for the set.
+#[cycle(body_set)]
+pub(crate) fn body_set(
+    alloc: Global,
+    universe: Universe,
+    node: &SyntaxNode,
+) -> Result<CodeSet, OutOfMemory>
+    ensures { IfOk result (λ s. (c : ℕ) → has s c ≡ holds_beside universe (node_of node.now) (Some c)) }
+{
+    match node {
+        SyntaxNode::Leaf(_, flags, leaf) => leaf_set(alloc, universe, *flags, leaf),
+        SyntaxNode::Assertion(_, flags, mark) => mark_set(alloc, *flags, *mark),
+        SyntaxNode::Group(_, _, body) => body_set(alloc, universe, body),
+        SyntaxNode::Choice(_, branches) => branches_set(alloc, universe, branches.as_slice()),
+        SyntaxNode::Repeat(_, _, _, _, _) | SyntaxNode::Nothing(_) | SyntaxNode::Seq(_, _) => {
+            Ok(no_codes(alloc))
+        }
+    }
+}
+
+/// Returns the set of the characters beside which the body of some branch holds.
 #[cycle(body_set)]
 fn branches_set(
     alloc: Global,
     universe: Universe,
     branches: &[Branch],
 ) -> Result<CodeSet, OutOfMemory>
-    ensures { IfOk result (λ s. (c : ℕ) → has s c ≡ branches_codes universe (t.branches (map branch_of branches.now)) c) }
+    ensures { IfOk result (λ s. (c : ℕ) → has s c ≡ some_beside universe (t.branches (map branch_of branches.now)) (Some c)) }
 {
     let mut set = no_codes(alloc);
     for branch in branches {
@@ -254,19 +285,69 @@ fn branches_set(
     Ok(set)
 }
 
-/// Returns the set of the codes that the body of a lookaround matches, which must be one character. Its list of ranges is the
-/// one that these codes determine.
+/// Whether the body of a lookaround holds at the end of the text to which it looks, where there is no character.
+#[cycle(holds_at_end)]
+pub(crate) fn holds_at_end(node: &SyntaxNode) -> bool
+    ensures { (u : Universe) → result ≡ holds_beside u (node_of node.now) None }
+{
+    match node {
+        SyntaxNode::Assertion(_, _, Assertion::Boundary(_)) => false,
+        SyntaxNode::Assertion(_, _, _) => true,
+        SyntaxNode::Group(_, _, body) => holds_at_end(body),
+        SyntaxNode::Choice(_, branches) => some_at_end(branches.as_slice()),
+        SyntaxNode::Leaf(_, _, _)
+        | SyntaxNode::Repeat(_, _, _, _, _)
+        | SyntaxNode::Nothing(_)
+        | SyntaxNode::Seq(_, _) => false,
+    }
+}
+
+/// Whether the body of some branch holds at the end of the text to which it looks.
+#[cycle(holds_at_end)]
+fn some_at_end(branches: &[Branch]) -> bool
+    ensures { (u : Universe) → result ≡ some_beside u (t.branches (map branch_of branches.now)) None }
+{
+    let mut some = false;
+    for branch in branches {
+        some = some || holds_at_end(&branch.body);
+    }
+    some
+}
+
+/// Returns the value, negated if `flip` is set.
+pub(crate) fn flipped(flip: bool, value: bool) -> bool
+    ensures { result ≡ xor flip value }
+{
+    if flip { !value } else { value }
+}
+
+/// Returns the set, or its complement in the universe if `flip` is set.
+fn turned(universe: Universe, flip: bool, set: CodeSet) -> Result<CodeSet, OutOfMemory>
+    requires { IsInside universe set }
+    ensures { IfOk result (λ s. (c : ℕ) → has s c ≡ within universe (λ d. xor flip (has set d)) c) }
+{
+    if flip {
+        set.complement(universe)
+    } else {
+        Ok(set)
+    }
+}
+
+/// Returns the set of the characters beside which the body of a lookaround holds, or doesn't hold if `flip` is set. Its list of
+/// ranges is the one that these codes determine.
 ///
 /// # Errors
 /// [`OutOfMemory`] if there is no memory for the set.
-pub(crate) fn character_set(
+pub(crate) fn look_set(
     alloc: Global,
     universe: Universe,
+    flip: bool,
     node: &SyntaxNode,
 ) -> Result<CodeSet, OutOfMemory>
-    ensures { IfOk result (λ s. s ≡ ranges_below (code_count universe) (character_codes universe (node_of node.now))) }
+    ensures { IfOk result (λ s. s ≡ ranges_below (code_count universe) (λ c. xor flip (holds_beside universe (node_of node.now) (Some c)))) }
 {
     let set = body_set(alloc, universe, node)?;
+    let set = turned(universe, flip, set)?;
     set.ranges_are_known();
     Ok(set)
 }

@@ -22,7 +22,8 @@ pub enum Dollar {
 pub(crate) enum Profile {
     /// No lookaround, and no `$` without MULTILINE except for the outer anchors.
     Narrow,
-    /// Lookarounds of one character too, and a `$` without MULTILINE at the end of the pattern as the [`Dollar`] says.
+    /// Also lookarounds that test one side of a place, and a `$` without MULTILINE at the end of the pattern as the [`Dollar`]
+    /// says.
     Wide(Dollar),
 }
 

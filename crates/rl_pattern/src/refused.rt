@@ -22,10 +22,11 @@ pub(crate) enum Judged {
     Left(Inner),
 }
 
-/// Returns the judgement on a whole pattern under the flags of the call and the profile. `text` says whether the pattern is a `str`.
+/// Returns the judgement on a whole pattern under the flags of the call and the profile. `text` says whether the pattern is a
+/// `str`.
 ///
 /// # Errors
-/// [`OutOfMemory`] if there is no memory for the names of groups or for a branch.
+/// [`OutOfMemory`] if there is no memory for the names of groups, for a branch or for a set.
 #[tactic(auto, using(crate::proofs::FirstFault::first_of_joined))]
 pub(crate) fn judge(
     alloc: Global,
@@ -42,7 +43,11 @@ pub(crate) fn judge(
         return Err(OutOfMemory);
     };
     let left = without_anchors(alloc, whole)?;
-    let nodes = node_fault(for_body(profile, left.trailing), text, &left.body);
+    let inner = for_body(profile, left.trailing);
+    let Ok(nodes) = node_fault(alloc, inner, text, &left.body) else {
+        drop(left);
+        return Err(OutOfMemory);
+    };
     match earlier(fronts, earlier(names, nodes)) {
         Some(fault) => {
             drop(left);

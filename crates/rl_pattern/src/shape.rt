@@ -11,11 +11,12 @@ ghost use Rattle.rl_syntax.specs.PatTree.{pat_of};
 ghost use Rattle.rl_syntax.specs.Counting.{branch_tree};
 ghost use Rattle.rl_pattern.specs.internal.Views.{node_of, branch_of};
 ghost use Rattle.rl_pattern.specs.Tree as t;
+ghost use Rattle.rl_pattern.specs.LeafCodes.{leaf_codes};
 ghost use Rattle.rl_pattern.specs.Shape as p;
 
-use crate::faults::reads_look;
+use crate::faults::{looks_to, reads_look};
 use crate::flags::Flags;
-use crate::leaf_set::{character_set, leaf_set};
+use crate::leaf_set::{flipped, holds_at_end, leaf_set, look_set};
 use crate::profile::{Dollar, Profile, before_end, for_item};
 use crate::tree::{Assertion, Branch as SpelledBranch, Count, Greed, Kind, Leaf, SyntaxNode};
 use rl_lists::{Items, OutOfMemory};
@@ -41,7 +42,7 @@ fn leaf_pat(
     flags: Flags,
     leaf: &Leaf,
 ) -> Result<Pat, OutOfMemory>
-    ensures { IfOk result (λ found. pat_of found ≡ s.class span (p.leaf_codes universe flags leaf.now)) }
+    ensures { IfOk result (λ found. pat_of found ≡ s.class span (leaf_codes universe flags leaf.now)) }
 {
     let set = leaf_set(alloc, universe, flags, leaf)?;
     Ok(Pat::Class { span, set })
@@ -186,11 +187,12 @@ fn look_pat(
 {
     match kind {
         Kind::Lookaround { behind, negated } => {
-            let set = character_set(alloc, universe, body)?;
+            let end = holds_at_end(body);
+            let set = look_set(alloc, universe, end, body)?;
             Ok(Pat::Look {
                 span,
-                behind: *behind,
-                negated: *negated,
+                behind: looks_to(is_text(universe), *behind, true, body),
+                negated: flipped(end, *negated),
                 set,
             })
         }
@@ -309,7 +311,7 @@ pub(crate) fn node_pat(
             repeat_pat(alloc, *span, *mark, *count, *greed, body)
         }
         SyntaxNode::Group(span, kind, body) => {
-            if reads_look(profile, is_text(universe), kind, body) {
+            if reads_look(alloc, profile, is_text(universe), kind, body)? {
                 return look_pat(alloc, universe, *span, kind, body);
             }
             let body = node_pat(alloc, profile, universe, body)?;

@@ -52,9 +52,9 @@ abbrev pub trail_at : List t.SyntaxNode → f.Trail
 trail_at [] = f.no_trail
 trail_at (p ∷ ps) = f.trail_of p
 
--- Holds if the judgement on the whole pattern `p` under the profile is right: the pattern is refused because of the fault that is reported, or
--- nothing is refused and its outer anchors are removed. `call` has the flags of the call, and `text` says whether the pattern
--- is a `str`.
+-- Holds if the judgement on the whole pattern `p` under the profile is right: the pattern is refused because of the fault that
+-- is reported, or nothing is refused and its outer anchors are removed. `call` has the flags of the call, and `text` says
+-- whether the pattern is a `str`.
 abbrev pub IsJudged : Profile → Flags → Bool → t.Whole → Judged → Type 0
 IsJudged profile call text p (Refused fault) = f.refused_in profile call text p ≡ Some fault
 IsJudged profile call text p (Left i) = (f.refused_in profile call text p ≡ None) × (left_of i ≡ f.inner p)

@@ -7,7 +7,7 @@ use Rattle.rl_ranges.specs.declared.universe.Universe.{Universe}
 use Rattle.rl_pattern.specs.declared.flags.Flags.{Flags}
 use Rattle.rl_pattern.specs.Tree.{Named, Escaped, Member}
 use Rattle.rl_pattern.specs.Codes.{no_flags}
-use Rattle.rl_pattern.specs.Shape.{within, closing, kind_holds, escaped_holds, code_member, kind_member, members_hold}
+use Rattle.rl_pattern.specs.LeafCodes.{within, closing, kind_holds, escaped_holds, code_member, kind_member, members_hold}
 
 -- Whether the code is in the set, or, under IGNORECASE, in the set closed under case.
 abbrev pub closing_in : Universe → Flags → (ℕ → Bool) → ℕ → Bool

@@ -22,7 +22,7 @@ branches_more r text bs i d best next here total l e f g =
 
 pub branches_fault-loop-branch-preserved : goal.branches_fault-loop-branch-preserved
 branches_fault-loop-branch-preserved t c =
-    branches_more c.args.profile c.args.text c.args.branches.now c.loop-branch.branch-index c.branch-item.result c.loop-branch.best c.earlier-best.result c.node_fault.result _ c.loop-branch-test.true c.earlier-best.ensures (c.node_fault.ensures ∙ ap (λ b. first_fault (node_faults_in c.args.profile c.args.text b.body)) (sym (branch_of-fields c.branch-item.result)) ∙ ap (λ b. first_fault (node_faults_in c.args.profile c.args.text (branch_of b).body)) c.branch-item.is) c.loop-branch.invariant
+    branches_more c.args.profile c.args.text c.args.branches.now c.loop-branch.branch-index c.branch-item.result c.loop-branch.best c.earlier-best.result c.in_ok-next.next _ c.loop-branch-test.true c.earlier-best.ensures (c.in_ok-next.ensures ∙ ap (λ b. first_fault (node_faults_in c.args.profile c.args.text b.body)) (sym (branch_of-fields c.branch-item.result)) ∙ ap (λ b. first_fault (node_faults_in c.args.profile c.args.text (branch_of b).body)) c.branch-item.is) c.loop-branch.invariant
 
 nodes_more : (r : Profile) (text : Bool) (ps : List SyntaxNode) (i : ℕ) (d : SyntaxNode) (own : Profile) (best next here total : Option Fault) → i < length ps → own ≡ for_item r (i + 1 == length ps) → next ≡ earlier best here → here ≡ first_fault (node_faults_in own text (node_of (slice_index_or ps i d)))
     → earlier best (first_fault (nodes_faults_in r text (t.nodes (map node_of (drop i ps))))) ≡ total → earlier next (first_fault (nodes_faults_in r text (t.nodes (map node_of (drop (i + 1) ps))))) ≡ total
@@ -36,24 +36,24 @@ nodes_more r text ps i d own best next here total l o e f g =
 
 pub nodes_fault-loop-place-preserved : goal.nodes_fault-loop-place-preserved
 nodes_fault-loop-place-preserved t c =
-    nodes_more c.args.profile c.args.text c.args.nodes.now c.loop-place.place c.index-nodes-place.result c.for_item-own.result c.loop-place.best c.earlier-best.result c.node_fault.result _ c.loop-place-test.true c.for_item-own.ensures c.earlier-best.ensures (c.node_fault.ensures ∙ ap (λ n. first_fault (node_faults_in c.for_item-own.result c.args.text (node_of n))) c.index-nodes-place.is) c.loop-place.invariant
+    nodes_more c.args.profile c.args.text c.args.nodes.now c.loop-place.place c.index-nodes-place.result c.for_item-own.result c.loop-place.best c.earlier-best.result c.in_ok-next.next _ c.loop-place-test.true c.for_item-own.ensures c.earlier-best.ensures (c.in_ok-next.ensures ∙ ap (λ n. first_fault (node_faults_in c.for_item-own.result c.args.text (node_of n))) c.index-nodes-place.is) c.loop-place.invariant
 
-pub node_fault-returns-in-Repeat : goal.node_fault-returns-in-Repeat
-node_fault-returns-in-Repeat t c =
+pub node_fault-returns-in_ok-inside-in-Repeat : goal.node_fault-returns-in_ok-inside-in-Repeat
+node_fault-returns-in_ok-inside-in-Repeat t c =
     let inside = before_end c.args.profile in
-    own_first c.earlier.result c.count_fault-own.result c.node_fault.result (count_faults c.in-Repeat.mark.from c.in-Repeat.count c.in-Repeat.greed) (node_faults_in inside c.args.text (node_of c.in-Repeat.body.value)) c.earlier.ensures c.count_fault-own.ensures
-    (c.node_fault.ensures ∙ ap (λ r. first_fault (node_faults_in r c.args.text (node_of c.deref.result.now))) c.before_end.ensures ∙ ap (λ n. first_fault (node_faults_in inside c.args.text (node_of n))) c.deref.ensures)
+    own_first c.earlier.result c.count_fault-own.result c.in_ok-inside-in-Repeat.inside (count_faults c.in-Repeat.mark.from c.in-Repeat.count c.in-Repeat.greed) (node_faults_in inside c.args.text (node_of c.in-Repeat.body.value)) c.earlier.ensures c.count_fault-own.ensures
+    (c.in_ok-inside-in-Repeat.ensures ∙ ap (λ r. first_fault (node_faults_in r c.args.text (node_of c.deref.result.now))) c.before_end.ensures ∙ ap (λ n. first_fault (node_faults_in inside c.args.text (node_of n))) c.deref.ensures)
     ∙ ap (λ n. first_fault (node_faults_in c.args.profile c.args.text n)) (sym (node_of-repeat c.in-Repeat.field-0 c.in-Repeat.mark c.in-Repeat.count c.in-Repeat.greed c.in-Repeat.body))
     ∙ ap (λ n. first_fault (node_faults_in c.args.profile c.args.text (node_of n))) (sym c.in-Repeat.is)
 
-pub node_fault-returns-else-reads_look : goal.node_fault-returns-else-reads_look
-node_fault-returns-else-reads_look t c =
+pub node_fault-returns-in_ok-inside-in-Group : goal.node_fault-returns-in_ok-inside-in-Group
+node_fault-returns-in_ok-inside-in-Group t c =
     let r = c.args.profile in
     let g = c.in-Group in
     let all = kind_faults c.args.text g.span.from g.kind ++ node_faults_in r c.args.text (node_of g.body.value) in
-    let unread : reads_look r c.args.text g.kind (node_of g.body.value) ≡ false = sym (c.reads_look.ensures ∙ ap (λ n. reads_look r c.args.text g.kind (node_of n)) c.deref-in-Group.ensures) ∙ c.if-reads_look.false in
-    own_first c.earlier-else-reads_look.result c.kind_fault-own.result c.node_fault-else-reads_look.result (kind_faults c.args.text g.span.from g.kind) (node_faults_in r c.args.text (node_of g.body.value)) c.earlier-else-reads_look.ensures c.kind_fault-own.ensures
-    (c.node_fault-else-reads_look.ensures ∙ ap (λ n. first_fault (node_faults_in r c.args.text (node_of n))) c.deref-else-reads_look.ensures)
+    let unread : reads_look r c.args.text g.kind (node_of g.body.value) ≡ false = sym (c.in_ok-reads_look-in-Group.ensures ∙ ap (λ n. reads_look r c.args.text g.kind (node_of n)) c.deref-in-Group.ensures) ∙ c.if-branch.false in
+    own_first c.earlier-else-branch.result c.kind_fault-own.result c.in_ok-inside-in-Group.inside (kind_faults c.args.text g.span.from g.kind) (node_faults_in r c.args.text (node_of g.body.value)) c.earlier-else-branch.ensures c.kind_fault-own.ensures
+    (c.in_ok-inside-in-Group.ensures ∙ ap (λ n. first_fault (node_faults_in r c.args.text (node_of n))) c.deref-else-branch.ensures)
     ∙ sym (ap (λ b. first_fault (if b then [] else all)) unread)
     ∙ ap (λ n. first_fault (node_faults_in r c.args.text n)) (sym (node_of-group g.span g.kind g.body))
     ∙ ap (λ n. first_fault (node_faults_in r c.args.text (node_of n))) (sym g.is)

@@ -2,7 +2,7 @@ use Rattle.std.proofs.Common.{◌≡◌, ℕ, Bool}
 use Rattle.rl_ranges.specs.Codes.{has, IsInside}
 use Rattle.rl_ranges.specs.Case.{IsCaseClosed}
 use Rattle.rl_ranges.specs.Named.{goes_by_ascii}
-use Rattle.rl_pattern.specs.Shape.{within}
+use Rattle.rl_pattern.specs.LeafCodes.{within}
 use Rattle.rl_pattern.specs.internal.LeafSets.{closing_in}
 use Rattle.rl_pattern.proofs.LeafLaws.{closing_true, answered_both}
 use Rattle.rl_pattern.proofs.leaf_set.closed.Goals as goal

@@ -1,6 +1,6 @@
 use Rattle.std.proofs.Common.{◌∙◌}
 use Rattle.rl_ranges.specs.Codes.{is_between}
-use Rattle.rl_pattern.specs.Shape.{within}
+use Rattle.rl_pattern.specs.LeafCodes.{within}
 use Rattle.rl_pattern.proofs.LeafLaws.{between_some, between_none, codes_same}
 use Rattle.rl_pattern.proofs.leaf_set.codes_between.Goals as goal
 

@@ -1,6 +1,6 @@
 use Rattle.std.proofs.Common.{◌≡◌, ◌∙◌, ◌==◌, ℕ, Bool}
 use Rattle.rl_ranges.specs.Codes.{has, is_between, IsInside}
-use Rattle.rl_pattern.specs.Shape.{within}
+use Rattle.rl_pattern.specs.LeafCodes.{within}
 use Rattle.rl_pattern.specs.internal.LeafSets.{closing_in, kind_in, escaped_in}
 use Rattle.rl_pattern.proofs.LeafLaws.{glyph_code, glyph_kind, same_within, between_one, answered, answered_both}
 use Rattle.rl_pattern.proofs.leaf_set.escaped_set.Goals as goal

@@ -1,7 +1,7 @@
 use Rattle.std.proofs.Common.{◌∙◌, ap, not, ◌&&◌, nat_lt}
 use Rattle.rl_ranges.specs.Codes.{has}
 use Rattle.rl_ranges.specs.Text.{code_count}
-use Rattle.rl_pattern.specs.Shape.{leaf_codes}
+use Rattle.rl_pattern.specs.LeafCodes.{leaf_codes}
 use Rattle.rl_pattern.specs.internal.LeafSets.{escaped_in, members_in}
 use Rattle.rl_pattern.proofs.LeafLaws.{any_held, glyph_held, class_held, inverse_held, codes_same}
 use Rattle.rl_pattern.proofs.leaf_set.leaf_set.Goals as goal

@@ -1,6 +1,6 @@
 use Rattle.std.proofs.Common.{not, ◌&&◌, ◌==◌}
 use Rattle.rl_ranges.specs.Codes.{is_between}
-use Rattle.rl_pattern.specs.Shape.{within}
+use Rattle.rl_pattern.specs.LeafCodes.{within}
 use Rattle.rl_pattern.proofs.LeafLaws.{line_feed_out, codes_same}
 use Rattle.rl_pattern.proofs.leaf_set.left_out.Goals as goal
 

@@ -1,6 +1,6 @@
 use Rattle.std.proofs.Common.{◌≡◌, ◌∙◌, ℕ, ap, sym}
 use Rattle.rl_ranges.specs.Codes.{has, is_between}
-use Rattle.rl_pattern.specs.Shape.{within}
+use Rattle.rl_pattern.specs.LeafCodes.{within}
 use Rattle.rl_pattern.specs.internal.LeafSets.{code_in}
 use Rattle.rl_pattern.proofs.LeafLaws.{one_held, range_held, answered}
 use Rattle.rl_pattern.proofs.leaf_set.member_codes.Goals as goal

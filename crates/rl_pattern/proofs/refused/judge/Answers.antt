@@ -14,8 +14,8 @@ returns-in-Some c =
     sym
     (own_first c.earlier-2.result c.fronts_fault-fronts.result c.earlier.result (front_faults c.args.text c.args.call p.fronts) (names ++ nodes) c.earlier-2.ensures
     (c.fronts_fault-fronts.ensures ∙ ap (λ gs. first_fault (front_faults c.args.text c.args.call gs)) c.as_slice.ensures)
-    (own_first c.earlier.result c.in-Ok.names c.node_fault-nodes.result names nodes c.earlier.ensures c.in-Ok.ensures
-    (c.node_fault-nodes.ensures ∙ ap (λ r. first_fault (node_faults_in r c.args.text (node_of c.in_ok-left.left.body))) c.for_body.ensures ∙ ap (λ (i : Inner). first_fault (node_faults_in (for_body c.args.profile i.trail) c.args.text i.body)) c.in_ok-left.ensures)))
+    (own_first c.earlier.result c.in-Ok.names c.in-Ok-node_fault.nodes names nodes c.earlier.ensures c.in-Ok.ensures
+    (c.in-Ok-node_fault.ensures ∙ ap (λ r. first_fault (node_faults_in r c.args.text (node_of c.in_ok-left.left.body))) c.for_body-inner.ensures ∙ ap (λ (i : Inner). first_fault (node_faults_in (for_body c.args.profile i.trail) c.args.text i.body)) c.in_ok-left.ensures)))
     ∙ c.in-Some.is
 
 pub returns-in-None : goal.returns-in-None
@@ -26,8 +26,8 @@ returns-in-None c =
       sym
           (own_first c.earlier-2.result c.fronts_fault-fronts.result c.earlier.result (front_faults c.args.text c.args.call p.fronts) (names ++ nodes) c.earlier-2.ensures
           (c.fronts_fault-fronts.ensures ∙ ap (λ gs. first_fault (front_faults c.args.text c.args.call gs)) c.as_slice.ensures)
-          (own_first c.earlier.result c.in-Ok.names c.node_fault-nodes.result names nodes c.earlier.ensures c.in-Ok.ensures
-          (c.node_fault-nodes.ensures ∙ ap (λ r. first_fault (node_faults_in r c.args.text (node_of c.in_ok-left.left.body))) c.for_body.ensures ∙ ap (λ (i : Inner). first_fault (node_faults_in (for_body c.args.profile i.trail) c.args.text i.body)) c.in_ok-left.ensures)))
+          (own_first c.earlier.result c.in-Ok.names c.in-Ok-node_fault.nodes names nodes c.earlier.ensures c.in-Ok.ensures
+          (c.in-Ok-node_fault.ensures ∙ ap (λ r. first_fault (node_faults_in r c.args.text (node_of c.in_ok-left.left.body))) c.for_body-inner.ensures ∙ ap (λ (i : Inner). first_fault (node_faults_in (for_body c.args.profile i.trail) c.args.text i.body)) c.in_ok-left.ensures)))
           ∙ c.in-None.is,
       c.in_ok-left.ensures,
     )
