@@ -14,10 +14,10 @@ use Rattle.rl_growth.specs.Routes.{split_at, state_after, bare, IsRoute}
 use Rattle.rl_growth.proofs.RouteLaws.{after-none, after-last}
 use Rattle.rl_why.specs.internal.Settings.{IsPumped}
 
-link_same : (x y : Link) (l m : List Link) → x ∷ l ≡ y ∷ m → x ≡ y
+pub link_same : (x y : Link) (l m : List Link) → x ∷ l ≡ y ∷ m → x ≡ y
 link_same x y l m e = cc
 
-links_same : (x y : Link) (l m : List Link) → x ∷ l ≡ y ∷ m → l ≡ m
+pub links_same : (x y : Link) (l m : List Link) → x ∷ l ≡ y ∷ m → l ≡ m
 links_same x y l m e = cc
 
 -- The pumps of a chain are the words of its splits, and last the word of its cycle.

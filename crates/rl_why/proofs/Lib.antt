@@ -1,8 +1,11 @@
 pub mod NumberLaws
 pub mod PathSearch
 pub mod AlongLaws
+pub mod LoopLaws
+pub mod EnterLaws
 pub mod ShownLaws
 pub mod ReadingLaws
 pub mod ChainLaws
+pub mod HeadLaws
 pub mod ShortLaws
 pub mod ExplainLaws

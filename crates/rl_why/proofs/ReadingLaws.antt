@@ -1,5 +1,5 @@
 -- Readings from ways.
-use Rattle.std.proofs.Common.{◌≡◌, ℕ, zero, suc, ◌++◌, Some, slice_get, ◌<◌, ◌≤◌, List, [], ◌∷◌, length, All, Option, refl, sym, ap, ap₂, ◌∙◌, subst, arith}
+use Rattle.std.proofs.Common.{◌≡◌, ℕ, zero, suc, ◌++◌, Some, slice_get, ◌<◌, ◌≤◌, List, [], ◌∷◌, length, All, Option, IsSome, refl, sym, ap, ap₂, ◌∙◌, subst, arith}
 use Rattle.std.proofs.lemmas.List.{length-map}
 use Rattle.std.proofs.lemmas.Option.{none-some, same_Some}
 use Rattle.rl_graph.specs.Paths.{paths, led, IsPath}
@@ -16,10 +16,11 @@ use Rattle.rl_ways.specs.declared.origin.Origin.{Origin}
 use Rattle.rl_ways.proofs.TextLaws.{text_ways-part}
 use Rattle.rl_why.specs.Shown.{Step, shown, PartAt}
 use Rattle.rl_why.specs.Loops.{loop_of}
-use Rattle.rl_why.specs.Readings.{way_again, IsWay, TwinReading, SplitReading, IsTwinReading, IsSplitReading, IsCycleReading}
+use Rattle.rl_why.specs.Readings.{way_again, IsWay, TwinReading, SplitReading, AreTwinWays, AreSplitWays, IsCycle}
 use Rattle.rl_why.specs.internal.Numbers.{state_in, numbers_in}
-use Rattle.rl_why.specs.internal.Settings.{IsSetting, IsWayAlong}
+use Rattle.rl_why.specs.internal.Settings.{IsSetting, IsWayAlong, place_of}
 use Rattle.rl_why.proofs.AlongLaws.{numbers-differ, numbers-long, begins, paths-lead_along}
+use Rattle.rl_why.proofs.LoopLaws.{rounds-named}
 use Rattle.rl_why.proofs.ShownLaws.{parts-shown}
 
 -- What is known of two lists of move numbers along one text.
@@ -110,7 +111,7 @@ module _ (t : Tree) (a : Automaton) (g : PairTable) (s : IsSetting t a g) where
 
 pub twin-shown : (t : Tree) (nodes : List Origin) (text one other : List ℕ) (place before : Option ℕ) (l m : List ToldItem) (r : TwinReading) → AreTwo t text place before one other
     → before ≡ last_of text → l ≡ text_way t place before text one → m ≡ text_way t place before text other → r.first ≡ shown nodes l → r.second ≡ shown nodes m
-    → ((k : ℕ) → PartAt k r.first r.second → r.parts ≡ k) → IsTwinReading t nodes text r
+    → ((k : ℕ) → PartAt k r.first r.second → r.parts ≡ k) → AreTwinWays t nodes text place r
 twin-shown t nodes text one other place before l m r two before_is l_is m_is first_is second_is parts_are =
     let here : l ≡ way_again t text place one = l_is ∙ ap (λ x. text_way t place x text one) before_is in
     let there : m ≡ way_again t text place other = m_is ∙ ap (λ x. text_way t place x text other) before_is in
@@ -119,31 +120,44 @@ twin-shown t nodes text one other place before l m r two before_is l_is m_is fir
     let apart_here : PartAt x.0 r.first r.second =
     subst (λ y. PartAt x.0 y r.second) (sym (first_is ∙ ap (shown nodes) l_is)) (subst (PartAt x.0 (shown nodes (text_way t place before text one))) (sym (second_is ∙ ap (shown nodes) m_is)) apart) in
     record {
-      place = place;
       one = one;
       other = other;
-      first = record { leads = subst (λ y. Leads place place text (text_way t place y text one)) before_is two.first; same = first_is ∙ ap (shown nodes) here };
-      second = record { leads = subst (λ y. Leads place place text (text_way t place y text other)) before_is two.second; same = second_is ∙ ap (shown nodes) there };
+      first = record { leads = subst (λ y. Leads place place text (text_way t place y text one)) before_is two.first; long = two.first_long; same = first_is ∙ ap (shown nodes) here };
+      second = record { leads = subst (λ y. Leads place place text (text_way t place y text other)) before_is two.second; long = two.second_long; same = second_is ∙ ap (shown nodes) there };
       parts = subst (λ k. PartAt k r.first r.second) (sym (parts_are x.0 apart_here)) apart_here;
     }
 
+-- A way that was found has a move number for each code.
+along-long : (t : Tree) (a : Automaton) (g : PairTable) → IsSetting t a g → (i k : ℕ) (w text : List ℕ) (l : List ToldItem) → i < g.graph.states → text ≡ spelled a w
+    → (h : IsWayAlong t a g i k w text l) → length h.numbers ≡ length text
+along-long t a g s i k w text l lt text_is h =
+    let long : length text ≡ length w = ap length text_is ∙ length-map w _ in
+    ap length h.counted ∙ numbers-long t a g s w h.path i k lt h.goes ∙ sym long
+
 -- The steps of a way that was found.
-pub way-shown : (t : Tree) (a : Automaton) (g : PairTable) (nodes : List Origin) (i k : ℕ) (w text : List ℕ) (l : List ToldItem) (steps : List Step) → (h : IsWayAlong t a g i k w text l) → steps ≡ shown nodes l
-    → IsWay t nodes text (place_of_state t a.table.codes (state_in g i)) (place_of_state t a.table.codes (state_in g k)) h.numbers steps
-way-shown t a g nodes i k w text l steps h is =
+way-shown : (t : Tree) (a : Automaton) (g : PairTable) → IsSetting t a g → (nodes : List Origin) (i k : ℕ) (w text : List ℕ) (l : List ToldItem) (steps : List Step) → i < g.graph.states → text ≡ spelled a w
+    → (h : IsWayAlong t a g i k w text l) → steps ≡ shown nodes l → IsWay t nodes text (place_of t a g i) (place_of t a g k) h.numbers steps
+way-shown t a g s nodes i k w text l steps lt text_is h is =
     record {
-      leads = subst (Leads (place_of_state t a.table.codes (state_in g i)) (place_of_state t a.table.codes (state_in g k)) text) h.same h.leads;
+      leads = subst (Leads (place_of t a g i) (place_of t a g k) text) h.same h.leads;
+      long = along-long t a g s i k w text l lt text_is h;
       same = is ∙ ap (shown nodes) h.same;
     }
+
+-- The loop of a way that was found is named.
+way-named : (t : Tree) (a : Automaton) (g : PairTable) (nodes : List Origin) (i : ℕ) (w text : List ℕ) (l : List ToldItem) (o : Option Origin) → 1 ≤ length text → IsWayAlong t a g i i w text l
+    → o ≡ loop_of t nodes l → IsSome o
+way-named t a g nodes i w text l o some h is =
+    subst IsSome (sym (is ∙ ap (loop_of t nodes) h.same))
+    (rounds-named t nodes (place_of t a g i) (last_of text) text h.numbers some (subst (Leads (place_of t a g i) (place_of t a g i) text) h.same h.leads))
 
 -- Two ways from one pair to two different pairs part.
 ways-part : (t : Tree) (a : Automaton) (g : PairTable) → IsSetting t a g → (nodes : List Origin) (i k : ℕ) (w text : List ℕ) (l m : List ToldItem) → i < g.graph.states → (i ≡ k → ⊥) → text ≡ spelled a w
     → (one : IsWayAlong t a g i i w text l) → (two : IsWayAlong t a g i k w text m) → (step : ℕ) × PartAt step (shown nodes l) (shown nodes m)
 ways-part t a g s nodes i k w text l m lt other text_is one two =
-    let place = place_of_state t a.table.codes (state_in g i) in
-    let long : length text ≡ length w = ap length text_is ∙ length-map w _ in
-    let one_long : length one.numbers ≡ length text = ap length one.counted ∙ numbers-long t a g s w one.path i i lt one.goes ∙ sym long in
-    let two_long : length two.numbers ≡ length text = ap length two.counted ∙ numbers-long t a g s w two.path i k lt two.goes ∙ sym long in
+    let place = place_of t a g i in
+    let one_long = along-long t a g s i i w text l lt text_is one in
+    let two_long = along-long t a g s i k w text m lt text_is two in
     let apart : one.numbers ≡ two.numbers → ⊥ = λ same.
     numbers-differ t a g s w one.path two.path i i k lt one.goes two.goes
     (λ e. other (same_Some i k (sym one.goes ∙ ap (λ p. led (moves_in g) i p w) e ∙ two.goes))) (sym one.counted ∙ same ∙ two.counted) in
@@ -154,38 +168,42 @@ ways-part t a g s nodes i k w text l m lt other text_is one two =
     )
 
 pub split-shown : (t : Tree) (a : Automaton) (g : PairTable) → IsSetting t a g → (nodes : List Origin) (i k : ℕ) (w text : List ℕ) (before over behind : List ToldItem) (r : SplitReading)
-    → i < g.graph.states → (i ≡ k → ⊥) → text ≡ spelled a w
+    → i < g.graph.states → k < g.graph.states → (i ≡ k → ⊥) → 1 ≤ length w → text ≡ spelled a w
     → IsWayAlong t a g i i w text before → IsWayAlong t a g i k w text over → IsWayAlong t a g k k w text behind
     → r.before ≡ shown nodes before → r.over ≡ shown nodes over → r.behind ≡ shown nodes behind
-    → r.first_loop ≡ loop_of t nodes before → r.second_loop ≡ loop_of t nodes behind → IsSplitReading t nodes text r
-split-shown t a g s nodes i k w text before over behind r lt other text_is one two three before_is over_is behind_is first_is second_is =
-    let parts = ways-part t a g s nodes i k w text before over lt other text_is one two in
+    → r.first_loop ≡ loop_of t nodes before → r.second_loop ≡ loop_of t nodes behind → AreSplitWays t nodes text (place_of t a g i) (place_of t a g k) r
+split-shown t a g s nodes i k w text before over behind r i_in k_in other some text_is one two three before_is over_is behind_is first_is second_is =
+    let parts = ways-part t a g s nodes i k w text before over i_in other text_is one two in
+    let long : length text ≡ length w = ap length text_is ∙ length-map w _ in
     record {
-      from = place_of_state t a.table.codes (state_in g i);
-      to = place_of_state t a.table.codes (state_in g k);
       stays = one.numbers;
       goes = two.numbers;
       follows = three.numbers;
-      before = way-shown t a g nodes i i w text before r.before one before_is;
-      over = way-shown t a g nodes i k w text over r.over two over_is;
-      behind = way-shown t a g nodes k k w text behind r.behind three behind_is;
+      before = way-shown t a g s nodes i i w text before r.before i_in text_is one before_is;
+      over = way-shown t a g s nodes i k w text over r.over i_in text_is two over_is;
+      behind = way-shown t a g s nodes k k w text behind r.behind k_in text_is three behind_is;
       step = parts.0;
       parts = subst (λ l. PartAt parts.0 l r.over) (sym before_is) (subst (PartAt parts.0 (shown nodes before)) (sym over_is) parts.1);
       first_loop = first_is ∙ ap (loop_of t nodes) one.same;
       second_loop = second_is ∙ ap (loop_of t nodes) three.same;
+      first_named = way-named t a g nodes i w text before r.first_loop (omega (arith, some, long)) one first_is;
+      second_named = way-named t a g nodes k w text behind r.second_loop (omega (arith, some, long)) three second_is;
     }
 
-pub cycle-shown : (t : Tree) (a : Automaton) (g : PairTable) (nodes : List Origin) (i : ℕ) (w text same_text : List ℕ) (l : List ToldItem) (o : Option Origin) → IsWayAlong t a g i i w text l
-    → o ≡ loop_of t nodes l → text ≡ same_text → IsCycleReading t nodes same_text o
-cycle-shown t a g nodes i w text same_text l o h is same =
-    let place = place_of_state t a.table.codes (state_in g i) in
-    subst (λ x. IsCycleReading t nodes x o) same
+pub cycle-shown : (t : Tree) (a : Automaton) (g : PairTable) → IsSetting t a g → (nodes : List Origin) (i k : ℕ) (w text same_text : List ℕ) (l : List ToldItem) (o : Option Origin) → i < g.graph.states
+    → 1 ≤ length w → text ≡ spelled a w → IsWayAlong t a g i i w text l → o ≡ loop_of t nodes l → text ≡ same_text → i ≡ k → IsCycle t nodes same_text (place_of t a g k) o
+cycle-shown t a g s nodes i k w text same_text l o lt some text_is h is same same_pair =
+    let place = place_of t a g i in
+    let long : length text ≡ length w = ap length text_is ∙ length-map w _ in
+    subst (λ j. IsCycle t nodes same_text (place_of t a g j) o) same_pair
+    (subst (λ x. IsCycle t nodes x place o) same
     (record {
-      place = place;
       numbers = h.numbers;
       leads = subst (Leads place place text) h.same h.leads;
+      long = along-long t a g s i i w text l lt text_is h;
       same = is ∙ ap (loop_of t nodes) h.same;
-    })
+      named = way-named t a g nodes i w text l o (omega (arith, some, long)) h is;
+    }))
 
 -- What holds of each item by its index holds after one more item.
 pub push-at : {A : Type 0} (P : ℕ → A → Type 0) (l : List A) (r : A) → ((j : ℕ) (x : A) → slice_get l j ≡ Some x → P j x) → P (length l) r → (j : ℕ) (x : A) → slice_get (l ++ r ∷ []) j ≡ Some x → P j x

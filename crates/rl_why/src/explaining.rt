@@ -230,7 +230,7 @@ fn over_tree(
 ///
 /// For exponential growth there are two different ways of the pump, each from a place of the pattern back to itself. For a degree
 /// `d` of 1 or more there are three ways of each of the first `d - 1` pumps, and the loop that reads the last one. A reading is
-/// never missing.
+/// never missing, and neither is a loop. The heads of the family lead to the places where the ways begin.
 ///
 /// # Errors
 /// [`OutOfMemory`] if there is not enough memory for the tree, the automaton, the graph, the family or the ways.

@@ -15,6 +15,10 @@
 //! pump, from its first place to its last one, and its steps are shown where they come from. The two ways of a twin are the same up
 //! to the step that is named, and differ in the decisions there.
 //!
+//! The first head leads from the start of the tree to the place where the first pump is read, and each later one from where the
+//! pump before it ends to the place of the next. Behind a head, a pump is read as behind itself, any number of times. The loops
+//! of a split and of the last pump are always named.
+//!
 //! # Example
 //!
 //! ```
@@ -24,10 +28,12 @@
 //! explained.reading; // Reading::Twin(..): the first `a` is read at [1, 2] or at [3, 4], and `parts` is 0
 //! ```
 //!
-//! Read `specs/Readings.antt` first, then `specs/Shown.antt` and `specs/Loops.antt`, and those of `rl_ways`.
+//! Read `specs/Readings.antt` first, then `specs/Shown.antt` and `specs/Loops.antt`, and those of `rl_ways`. [`laws`] has what
+//! follows for all trees.
 #![tactic(auto)]
 
 mod explaining;
+pub mod laws;
 mod loops;
 mod paths;
 mod reading;

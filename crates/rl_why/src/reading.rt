@@ -13,9 +13,9 @@ ghost use Rattle.rl_pairs.specs.Families.{spelled};
 ghost use Rattle.rl_growth.specs.FamilyWords.{AreLetters, IsChainWords};
 ghost use Rattle.rl_ways.specs.Ways.{last_of};
 ghost use Rattle.rl_why.specs.Shown.{PartAt};
-ghost use Rattle.rl_why.specs.Readings.{IsTwinReading, IsSplitReading, IsChainReading};
+ghost use Rattle.rl_why.specs.Readings.{AreTwinWays, AreSplitWays, AreChainWays};
 ghost use Rattle.rl_why.specs.internal.Sources.{IsSource};
-ghost use Rattle.rl_why.specs.internal.Settings.{IsSetting, IsWayAlong, IsPumped};
+ghost use Rattle.rl_why.specs.internal.Settings.{IsSetting, IsWayAlong, IsPumped, place_of, from_at};
 
 use crate::loops::loop_along;
 use crate::paths::{numbers_of, path_along};
@@ -50,9 +50,9 @@ pub struct SplitReading {
     pub over: Way,
     /// The way that stays behind: around the second loop.
     pub behind: Way,
-    /// The first loop: the innermost one whose body reads all characters of the way before.
+    /// The first loop: the innermost one whose body reads all characters of the way before. It is never missing.
     pub first_loop: Option<Origin>,
-    /// The second loop: the innermost one whose body reads all characters of the way behind.
+    /// The second loop: the innermost one whose body reads all characters of the way behind. It is never missing.
     pub second_loop: Option<Origin>,
 }
 
@@ -61,7 +61,7 @@ pub struct SplitReading {
 pub struct ChainReading {
     /// For each pump but the last one, in order, how it is read.
     pub splits: Items<SplitReading>,
-    /// The loop that reads the last pump: the innermost one whose body reads all its characters.
+    /// The loop that reads the last pump: the innermost one whose body reads all its characters. It is never missing.
     pub cycle: Option<Origin>,
 }
 
@@ -123,7 +123,7 @@ pub(crate) fn twin_reading(
     requires twin { IsTwin (moves_in g.now) twin.now.state twin.now.word twin.now.first twin.now.second }
     requires letters { All (λ letter. letter < letters_count a.now) twin.now.word }
     requires text { text.now ≡ spelled a.now twin.now.word }
-    ensures { IfOk result (IsTwinReading (tree_of tree.now) sources.now.nodes text.now) }
+    ensures { IfOk result (AreTwinWays (tree_of tree.now) sources.now.nodes text.now (place_of (tree_of tree.now) a.now g.now twin.now.state)) }
 {
     let word = twin.word.as_slice();
     let first = numbers_of(alloc, a, g, twin.state, word, twin.first.as_slice())?;
@@ -211,7 +211,8 @@ fn split_reading(
     requires to_in { split.now.to < g.now.graph.states }
     requires letters { All (λ letter. letter < letters_count a.now) split.now.word }
     requires text { text.now ≡ spelled a.now split.now.word }
-    ensures { IfOk result (IsSplitReading (tree_of tree.now) sources.now.nodes text.now) }
+    ensures { IfOk result (AreSplitWays (tree_of tree.now) sources.now.nodes text.now
+        (place_of (tree_of tree.now) a.now g.now split.now.from) (place_of (tree_of tree.now) a.now g.now split.now.to)) }
 {
     let word = split.word.as_slice();
     let before = way_along(alloc, tree, a, g, split.from, split.from, word, text)?;
@@ -245,7 +246,8 @@ fn split_readings(
     requires splits { (k : ℕ) → k < length splits.now → IsPumped a.now g.now (slice_index_or pumps.now k []) (split_at splits.now k) }
     ensures count { IfOk result (λ l. length l ≡ length splits.now) }
     ensures right { IfOk result (λ l. (k : ℕ) (r : SplitReading) → slice_get l k ≡ Some r
-        → IsSplitReading (tree_of tree.now) sources.now.nodes (slice_index_or pumps.now k []) r) }
+        → AreSplitWays (tree_of tree.now) sources.now.nodes (slice_index_or pumps.now k [])
+        (place_of (tree_of tree.now) a.now g.now (split_at splits.now k).from) (place_of (tree_of tree.now) a.now g.now (split_at splits.now k).to) r) }
 {
     let mut readings = Items::new(alloc);
     for k in 0..splits.len() {
@@ -279,7 +281,8 @@ pub(crate) fn chain_reading(
     requires words { (heads : List (List ℕ)) × IsChainWords a.now (moves_in g.now) (pair_in g.now) splits.now alone heads words.now }
     requires letters { AreLetters a.now words.now }
     requires texts { pumps.now ≡ map (spelled a.now) words.now }
-    ensures { IfOk result (IsChainReading (tree_of tree.now) sources.now.nodes pumps.now) }
+    ensures { IfOk result (AreChainWays (tree_of tree.now) sources.now.nodes pumps.now
+        (λ k. place_of (tree_of tree.now) a.now g.now (from_at splits.now alone k)) (λ k. place_of (tree_of tree.now) a.now g.now (split_at splits.now k).to)) }
 {
     let readings = split_readings(alloc, tree, sources, a, g, splits, pumps)?;
     let mut state = alone;

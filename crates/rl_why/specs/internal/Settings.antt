@@ -1,5 +1,5 @@
 -- What is known where ways are made: the tree, its automaton, and the graph of the automaton's live pairs.
-use Rattle.std.specs.Prelude.{◌≡◌, ℕ, ◌^◌, ◌<◌, ◌≤◌, ◌+◌, List, length, All}
+use Rattle.std.specs.Prelude.{◌≡◌, ℕ, zero, suc, ◌^◌, ◌<◌, ◌≤◌, ◌+◌, List, [], ◌∷◌, length, All, Option}
 use Rattle.rl_syntax.specs.declared.re.Ending.{Ending}
 use Rattle.rl_syntax.specs.declared.limits.TheConstants.{MOST_NODES}
 use Rattle.rl_syntax.specs.Tree.{Tree, places, size}
@@ -27,6 +27,17 @@ pub record IsSetting (t : Tree) (a : Automaton) (g : PairTable) : Type 0 where
   pub led : IsLed a g
   pub letters : g.graph.letters ≡ letters_count a + 1
   pub short : (q letter : ℕ) → length (moves_at a q letter) < 2 ^ 32
+
+-- The place of the state of the pair with the number `i`.
+abbrev pub place_of : Tree → Automaton → PairTable → ℕ → Option ℕ
+place_of t a g i = place_of_state t a.table.codes (state_in g i)
+
+-- The pair from which the pump with the number `k` is read: the first one of its split, or, past the splits, the end of the
+-- last one. It is `q` if there are no splits.
+abbrev pub from_at : List Split → ℕ → ℕ → ℕ
+from_at [] q k = q
+from_at (s ∷ splits) q zero = s.from
+from_at (s ∷ splits) q (suc k) = from_at splits s.to k
 
 -- Holds if the way reads the text, which is repeated, from the place of one pair's state to that of another one, along a path of
 -- the graph on the word.

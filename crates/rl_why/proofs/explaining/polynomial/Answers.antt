@@ -1,4 +1,4 @@
-use Rattle.std.proofs.Common.{◌+◌, List, length, subst, sym, ap, arith}
+use Rattle.std.proofs.Common.{◌+◌, ◌<◌, List, length, subst, sym, ap, arith}
 use Rattle.rl_syntax.specs.Tree.{tree_of}
 use Rattle.rl_degree.specs.declared.chains.Split.{Split}
 use Rattle.rl_pairs.specs.PairTable.{moves_in, pair_in}
@@ -76,6 +76,13 @@ returns-clause-right c =
 
 pub returns-clause-reading : goal.returns-clause-reading
 returns-clause-reading c =
-    let count = length c.as_slice-splits.result.now in
-    chain-reading (tree_of c.args.tree.now) c.args.sources.now.nodes (count + 1) count c.in_ok-family-in-Some.family c.as_slice-in-Some.result.now c.in_ok-reading-in-Some.reading (omega arith)
+    let g = c.args.g.now in
+    let s = c.requires.setting in
+    let splits = c.as_slice-splits.result.now in
+    let count = length splits in
+    let longest = longest_of c.args.a.now g c.graph.result.now c.in_ok-chain.chain c.graph.ensures s.led c.in_ok-chain.ensures.links c.in_ok-chain.ensures.states c.in_ok-chain.ensures.longest c.in_ok-chain.ensures.ranks c.in_ok-chain.ensures.no_cycle in
+    let route : IsRoute (moves_in g) g.graph.states splits = subst (IsRoute (moves_in g) g.graph.states) (sym c.as_slice-splits.ensures) longest.route in
+    let cycle_in : c.in-Some.cycle.state < g.graph.states = subst (λ h. c.in-Some.cycle.state < h.states) c.graph.ensures (rw c.in-Some.is at c.in_ok-chain.ensures.cycle).state_in in
+    chain-reading (tree_of c.args.tree.now) c.args.a.now g s c.args.sources.now.nodes (count + 1) count c.in_ok-family-in-Some.family splits c.in-Some.cycle.state c.in_ok-words-in-Some.words.heads c.in_ok-words-in-Some.words.pumps
+    c.as_slice-in-Some.result.now c.in_ok-reading-in-Some.reading route cycle_in (c.in_ok-words-in-Some.ensures c.args.a.now s.led) c.in_ok-family-in-Some.ensures (omega arith)
     c.as_slice-in-Some.ensures c.in_ok-reading-in-Some.ensures
