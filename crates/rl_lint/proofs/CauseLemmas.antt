@@ -5,8 +5,7 @@ use Rattle.std.specs.Str.{chars}
 use Rattle.rl_source.specs.Asked.{call_of}
 use Rattle.rl_source.specs.Faults.{Rose}
 use Rattle.rl_source.specs.Revealed.{Revealed, after}
-use Rattle.rl_source.specs.declared.nodes.CallName.TheVariants.{Read}
-use Rattle.rl_source.specs.declared.nodes.Node.{Node}
+use Rattle.rl_source.specs.declared.nodes.Query.TheVariants.{Read}
 use Rattle.rl_syntax.specs.Pattern.{pattern_ending, pattern_tree}
 use Rattle.rl_syntax.specs.Tree.{Tree}
 use Rattle.rl_syntax.specs.declared.re.Ending.{Ending as MatchEnd}
@@ -26,7 +25,7 @@ use Rattle.rl_lint.specs.CompareEnding.{CompareEnds}
 use Rattle.rl_lint.specs.CostEnding.{cost_ending, cost_line}
 use Rattle.rl_lint.specs.Endings.{Ending, refuses, writes}
 use Rattle.rl_lint.specs.internal.Plans.{ending_of, has_fault, is_refusal}
-use Rattle.rl_lint.specs.Files.{HasRefused, ReadsFile, ReadsThen, file_refused, file_taken, file_unreadable, first_bytes, whole_bytes}
+use Rattle.rl_lint.specs.Files.{HasRefused, Portion, ReadsFile, ReadsThen, file_refused, file_taken, file_unreadable, first_bytes, whole_bytes}
 use Rattle.rl_lint.specs.Options.{GivesSettings, default_settings, with_values}
 use Rattle.rl_lint.specs.Patterns.{IsRefusedPattern, ParsesThen, pattern_parsed, pattern_refused, text_question}
 use Rattle.rl_lint.specs.ProveEnding.{ProveEnds}
@@ -67,13 +66,13 @@ module _ (R : Type 0) (old new : Moment) where
 abbrev KeepsMap : Moment → Moment → Type 0
 KeepsMap old new = (t : Revealed) → old.told ≡ Some t → (u : Revealed) × (new.told ≡ Some u) × (u.nodes ≡ t.nodes)
 
-module _ {A : Type 0} (Gives : Text → A → Type 0) (there : Text → List Node → Option Text) where
-  kept : (path bytes : Text) (old new : Moment) → ReadsFile there path (Some bytes) old new → KeepsMap old new
+module _ {A : Type 0} (Gives : Text → A → Type 0) (portion : Portion) where
+  kept : (path bytes : Text) (old new : Moment) → ReadsFile portion path (Some bytes) old new → KeepsMap old new
   kept path bytes old new reads t is =
-      let calls = call_of Read path false ∷ [] in
+      let calls = call_of (Read portion.at_most) path false ∷ [] in
       (record t { trail = t.trail ++ calls }, reads.trail ∙ ap (after calls) is, refl)
 
-  earlier : (named : Option Text) (old new : Moment) → KeepsMap old new → HasRefused Gives there named new.told → HasRefused Gives there named old.told
+  earlier : (named : Option Text) (old new : Moment) → KeepsMap old new → HasRefused Gives portion named new.told → HasRefused Gives portion named old.told
   earlier named old new keeps r = record {
     path = r.path;
     bytes = r.bytes;
@@ -82,8 +81,8 @@ module _ {A : Type 0} (Gives : Text → A → Type 0) (there : Text → List Nod
     refused = r.refused;
   }
     where
-      same : (t : Revealed) → (u : Revealed) × (new.told ≡ Some u) × (u.nodes ≡ t.nodes) → there r.path t.nodes ≡ Some r.bytes
-      same t k = subst (λ nodes. there r.path nodes ≡ Some r.bytes) k.2 (r.right k.0 k.1)
+      same : (t : Revealed) → (u : Revealed) × (new.told ≡ Some u) × (u.nodes ≡ t.nodes) → portion.there r.path t.nodes ≡ Some r.bytes
+      same t k = subst (λ nodes. portion.there r.path nodes ≡ Some r.bytes) k.2 (r.right k.0 k.1)
 
 -- What is refused was already refused at the start.
 earlier_refused : (options : Chosen) (asked : Asked) (old new : Moment) → KeepsMap old new → IsRefusedAction new.told options asked → IsRefusedAction old.told options asked
@@ -97,15 +96,15 @@ earlier_refused options (verify pattern file) old new keeps (inr r) = inr (earli
 earlier_refused options (compare first second) old new keeps r = r
 
 -- Either a file can't be read or is refused, or it is accepted and what follows has a cause.
-module _ {A : Type 0} (name : Text) (there : Text → List Node → Option Text) (Gives : Text → A → Type 0) (Next : A → Moment → Moment → Ending → Type 0)
+module _ {A : Type 0} (name : Text) (portion : Portion) (Gives : Text → A → Type 0) (Next : A → Moment → Moment → Ending → Type 0)
     (path : Text) (R : Type 0) (old new : Moment) where
-  of_file : (ending : Ending) → ReadsThen name there Gives Next path old new ending → (HasRefused Gives there (Some path) old.told → R)
+  of_file : (ending : Ending) → ReadsThen name portion Gives Next path old new ending → (HasRefused Gives portion (Some path) old.told → R)
       → ((x : A) (mid : Moment) → KeepsMap old mid → Next x mid new ending → HasCause R mid new ending) → HasCause R old new ending
   of_file _ (file_unreadable reads) first later = record { refused = λ (never : false ≡ true). cc; failed = λ fault. reads.cause refl }
   of_file _ (file_refused {bytes = bytes} reads never) first later =
       refusing R old new _ (first (record { path = path; bytes = bytes; is_named = refl; right = reads.right; refused = never }))
   of_file ending (file_taken {bytes = bytes} {x = x} {mid = mid} reads gives next) first later =
-      let cause = later x mid (kept Gives there path bytes old mid reads) next in
+      let cause = later x mid (kept Gives portion path bytes old mid reads) next in
       record { refused = cause.refused; failed = λ fault. rose-earlier old.faults mid.faults new.faults reads.later (cause.failed fault) }
 
 -- ---- patterns

@@ -6,6 +6,7 @@ ghost use Rattle.rl_lint.specs.Options.{GivesSettings, default_settings};
 ghost use Rattle.rl_lint.specs.internal.Reads.{AreFit, IsGiven, IsNamedRead};
 
 use crate::files::{FileRead, read_file};
+use crate::limits::WHOLE_FILE;
 use crate::settings::settings_from;
 use rl_judge::{Layout, Settings};
 use rl_lists::OutOfMemory;
@@ -58,7 +59,7 @@ pub fn read_config<T: Tree>(
     let Some(path) = path else {
         return Ok(FileRead::Taken(DEFAULTS));
     };
-    match read_file(path, usize::MAX, tree)? {
+    match read_file(path, WHOLE_FILE, tree)? {
         Some(bytes) => settings_in(alloc, &bytes),
         None => Ok(FileRead::Unreadable),
     }

@@ -2,8 +2,7 @@
 //! its bytes are accepted or refused.
 ghost use Rattle.std.specs.Prelude.{◌≤◌, IfOk, option_map};
 ghost use Rattle.rl_walk.specs.Visits.{moment_of};
-ghost use Rattle.rl_lint.specs.Files.{ReadsFile};
-ghost use Rattle.rl_lint.specs.internal.Reads.{bytes_up_to};
+ghost use Rattle.rl_lint.specs.Files.{ReadsFile, bytes_up_to};
 
 use rl_lists::OutOfMemory;
 use rl_source::{Tree, TreeError};
@@ -20,7 +19,7 @@ pub enum FileRead<T> {
 }
 
 /// Returns the first `at_most` bytes of the file at `path`, or all of them if there are fewer, or `None` if the call fails.
-/// The tree is asked once, for this file.
+/// The tree is asked once, for this file and for no more bytes.
 ///
 /// # Errors
 /// [`OutOfMemory`] if memory runs out.

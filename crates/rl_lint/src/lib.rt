@@ -46,7 +46,7 @@ mod settings;
 mod stderr;
 mod verify;
 
-pub use limits::{MOST_READ, MOST_TEXT_CODES};
+pub use limits::{MOST_READ, MOST_TEXT_CODES, WHOLE_FILE};
 pub use rl_judge::{JudgeError, Layout, Settings, judge, status_of};
 pub use rl_sample::sample_source;
 pub use rl_settings::SettingsError;

@@ -4,20 +4,21 @@
 use Rattle.std.specs.Prelude.{◌≡◌, ℕ, ◌≤◌, Bool, true, false, List, [], ◌∷◌, Result, Ok, Err, IsErrOf}
 use Rattle.rl_source.specs.Faults.{Rose, next_count}
 use Rattle.rl_source.specs.declared.nodes.Call.{Call}
-use Rattle.rl_source.specs.declared.nodes.CallName.{CallName}
+use Rattle.rl_source.specs.declared.nodes.Query.{Query}
 use Rattle.rl_source.specs.declared.trees.TreeError.{TreeError}
 use Rattle.rl_source.specs.declared.trees.TreeError.TheVariants as error
 
--- The call with this name and path. `failed` says whether it returned `Failed`.
-abbrev pub call_of : CallName → List ℕ → Bool → Call
-call_of name path failed = record { name = name; path = path; failed = failed }
+-- The call that asks this about the path. The query of a read says how many bytes it asks for at most. `failed` says whether
+-- the call returned `Failed`.
+abbrev pub call_of : Query → List ℕ → Bool → Call
+call_of query path failed = record { query = query; path = path; failed = failed }
 
--- What the call with this name, path and result adds to the trail: the call, with a mark if it failed. A call that ran out of
+-- What the call with this query, path and result adds to the trail: the call, with a mark if it failed. A call that ran out of
 -- memory adds nothing.
-abbrev pub noted : {A : Type 0} → CallName → List ℕ → Result A TreeError → List Call
-noted name path (Ok answer) = call_of name path false ∷ []
-noted name path (Err error.Failed) = call_of name path true ∷ []
-noted name path (Err error.OutOfMemory) = []
+abbrev pub noted : {A : Type 0} → Query → List ℕ → Result A TreeError → List Call
+noted query path (Ok answer) = call_of query path false ∷ []
+noted query path (Err error.Failed) = call_of query path true ∷ []
+noted query path (Err error.OutOfMemory) = []
 
 -- Holds if the fault count doesn't decrease from `before` to `now`, and the result is `Failed` only if the count increased or
 -- is saturated (2^64 - 1).

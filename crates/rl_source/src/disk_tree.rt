@@ -2,7 +2,7 @@
 ghost use Rattle.std.specs.Prelude.{◌≡◌, ◌≢◌, take, Some, Ok, IfOk, IfErr, IsErrOf, IfSome, IsSomeAnd};
 ghost use Rattle.std.specs.IoError.{error_kind};
 
-use crate::nodes::{CallName, Child, Kind, Name};
+use crate::nodes::{Child, Kind, Name, Query};
 use crate::trees::{Tree, TreeError};
 use std::fs::{DirEntry, FileType};
 use std::io::{ErrorKind, Read};
@@ -79,7 +79,7 @@ impl<'r> Tree for DiskTree<'r> {
     }
 
     fn kind(&mut self, path: &str) -> Result<Kind, TreeError>
-        ensures told { reveals_nothing self.new ≡ after (noted CallName.Kind path.now result) (reveals_nothing self.old) }
+        ensures told { reveals_nothing self.new ≡ after (noted Query.Kind path.now result) (reveals_nothing self.old) }
         ensures answer { IfOk result (λ found. IfSome (reveals_nothing self.old)
             (λ t. kind_at t.nodes path.now ≡ Some found)) }
         ensures cause { HasTreeCause self.old self.new result }
@@ -90,7 +90,7 @@ impl<'r> Tree for DiskTree<'r> {
     }
 
     fn children(&mut self, path: &str) -> Result<Vec<Child>, TreeError>
-        ensures told { reveals_nothing self.new ≡ after (noted CallName.Children path.now result) (reveals_nothing self.old) }
+        ensures told { reveals_nothing self.new ≡ after (noted Query.Children path.now result) (reveals_nothing self.old) }
         ensures answer { IfOk result (λ found. IfSome (reveals_nothing self.old)
             (λ t. IsSomeAnd (children_at t.nodes path.now) (λ children. Lists children found.items))) }
         ensures cause { HasTreeCause self.old self.new result }
@@ -101,7 +101,7 @@ impl<'r> Tree for DiskTree<'r> {
     }
 
     fn read(&mut self, path: &str, at_most: usize) -> Result<Vec<u8>, TreeError>
-        ensures told { reveals_nothing self.new ≡ after (noted CallName.Read path.now result) (reveals_nothing self.old) }
+        ensures told { reveals_nothing self.new ≡ after (noted (Query.Read at_most) path.now result) (reveals_nothing self.old) }
         ensures answer { IfOk result (λ bytes. IfSome (reveals_nothing self.old)
             (λ t. IsSomeAnd (bytes_at t.nodes path.now) (λ content. bytes.items ≡ take at_most content))) }
         ensures cause { HasTreeCause self.old self.new result }

@@ -8,10 +8,10 @@
 //! # What is proved
 //!
 //! A tree may reveal to contracts its map of files and the trail of the calls made on it. If it does, every answer agrees
-//! with the map, no call changes the map, and every call is added to the trail, with a mark if it failed. A call that ran
-//! out of memory isn't added. A call fails only if the fault count increased or is saturated. If a sink reveals its bytes,
-//! [`write_all`] appends the whole text, or it fails and only a proper prefix of the text was appended. No contract says
-//! what is on a disk, because a [`DiskTree`] reveals neither a map nor a trail.
+//! with the map, no call changes the map, and every call is added to the trail: what it asked, of a read also how many bytes
+//! at most, and whether it failed. A call that ran out of memory isn't added. A call fails only if the fault count increased
+//! or is saturated. If a sink reveals its bytes, [`write_all`] appends the whole text, or it fails and only a proper prefix of
+//! the text was appended. No contract says what is on a disk, because a [`DiskTree`] reveals neither a map nor a trail.
 //!
 //! # Example
 //!
@@ -39,7 +39,7 @@ mod trees;
 pub use disk_tree::{DiskTree, Runtime};
 pub use mem_sink::MemSink;
 pub use mem_tree::{MemTree, MemTreeError};
-pub use nodes::{Call, CallName, Child, Children, Content, Held, Kind, Name, Node, Nodes};
+pub use nodes::{Call, Child, Children, Content, Held, Kind, Name, Node, Nodes, Query};
 pub use sinks::{Sink, SinkFailed, write_all};
 pub use std_sink::StdSink;
 pub use trees::{Tree, TreeError};

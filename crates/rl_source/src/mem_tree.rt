@@ -7,7 +7,7 @@ ghost use Rattle.rl_source.specs.Distinct.{Lists, is_double};
 
 use crate::doubles::is_double;
 use crate::node_map::{bytes_at, children_at, kind_at};
-use crate::nodes::{Call, CallName, Child, Kind, Name, Nodes};
+use crate::nodes::{Call, Child, Kind, Name, Nodes, Query};
 use crate::trees::{Tree, TreeError};
 use rl_lists::OutOfMemory;
 use std::alloc::{AllocError, AllocFailed, Global};
@@ -98,30 +98,34 @@ impl MemTree {
     }
 
     /// Adds a call to the trail.
-    fn note(&mut self, name: CallName, path: &str, failed: bool) -> Result<(), OutOfMemory>
+    fn note(&mut self, query: Query, path: &str, failed: bool) -> Result<(), OutOfMemory>
         ensures ok { OnOk result (self.new ≡ record self.old {
-          trail = self.old.trail ++ call_of name path.now failed ∷ [];
+          trail = self.old.trail ++ call_of query path.now failed ∷ [];
         }) }
         ensures err { OnErr result (self.new ≡ self.old) }
     {
         let path = Name::from_text(self.alloc, path)?;
-        self.trail.push(Call { name, path, failed })?;
+        self.trail.push(Call {
+            query,
+            path,
+            failed,
+        })?;
         Ok(())
     }
 
     /// Adds a call to the trail and returns what was found. If nothing was found, the call failed.
     fn answer<T: Drop>(
         &mut self,
-        name: CallName,
+        query: Query,
         path: &str,
         found: Option<T>,
     ) -> Result<T, TreeError>
         ensures found { IfOk result (λ value. found ≡ Some value) }
         ensures none { IsErrOf result TreeError.Failed → found ≡ None }
         ensures cause { HasTreeCause (failed_calls self.old) (failed_calls self.new) result }
-        ensures state { self.new ≡ after_call self.old (noted name path.now result) }
+        ensures state { self.new ≡ after_call self.old (noted query path.now result) }
     {
-        match self.note(name, path, found.is_none()) {
+        match self.note(query, path, found.is_none()) {
             Ok(()) => found.ok_or(TreeError::Failed),
             Err(OutOfMemory) => Err(TreeError::OutOfMemory),
         }
@@ -142,10 +146,10 @@ impl Tree for MemTree {
     }
 
     fn kind(&mut self, path: &str) -> Result<Kind, TreeError>
-        ensures told { Some (revealed_by self.new) ≡ after (noted CallName.Kind path.now result) (Some (revealed_by self.old)) }
+        ensures told { Some (revealed_by self.new) ≡ after (noted Query.Kind path.now result) (Some (revealed_by self.old)) }
         ensures answer { IfOk result (λ found. kind_at self.old.nodes path.now ≡ Some found) }
         ensures cause { HasTreeCause (failed_calls self.old) (failed_calls self.new) result }
-        ensures state { self.new ≡ after_call self.old (noted CallName.Kind path.now result) }
+        ensures state { self.new ≡ after_call self.old (noted Query.Kind path.now result) }
         ensures exact { FailsExactly self.old (is_some (kind_at self.old.nodes path.now)) result }
     {
         let found = if self.call_fails() {
@@ -153,30 +157,30 @@ impl Tree for MemTree {
         } else {
             kind_at(self.nodes.as_slice(), path)
         };
-        self.answer(CallName::Kind, path, found)
+        self.answer(Query::Kind, path, found)
     }
 
     fn children(&mut self, path: &str) -> Result<Vec<Child>, TreeError>
-        ensures told { Some (revealed_by self.new) ≡ after (noted CallName.Children path.now result) (Some (revealed_by self.old)) }
+        ensures told { Some (revealed_by self.new) ≡ after (noted Query.Children path.now result) (Some (revealed_by self.old)) }
         ensures answer { IfOk result (λ found.
             IsSomeAnd (children_at self.old.nodes path.now) (λ children. Lists children found.items)) }
         ensures cause { HasTreeCause (failed_calls self.old) (failed_calls self.new) result }
-        ensures state { self.new ≡ after_call self.old (noted CallName.Children path.now result) }
+        ensures state { self.new ≡ after_call self.old (noted Query.Children path.now result) }
         ensures exact { FailsExactly self.old (is_some (children_at self.old.nodes path.now)) result }
     {
         let found = match children_at(self.nodes.as_slice(), path) {
             Some(children) if !self.call_fails() => Some(Vec::from_clones(self.alloc, children)?),
             _ => None,
         };
-        self.answer(CallName::Children, path, found)
+        self.answer(Query::Children, path, found)
     }
 
     fn read(&mut self, path: &str, at_most: usize) -> Result<Vec<u8>, TreeError>
-        ensures told { Some (revealed_by self.new) ≡ after (noted CallName.Read path.now result) (Some (revealed_by self.old)) }
+        ensures told { Some (revealed_by self.new) ≡ after (noted (Query.Read at_most) path.now result) (Some (revealed_by self.old)) }
         ensures answer { IfOk result (λ bytes.
             IsSomeAnd (bytes_at self.old.nodes path.now) (λ content. bytes.items ≡ take at_most content)) }
         ensures cause { HasTreeCause (failed_calls self.old) (failed_calls self.new) result }
-        ensures state { self.new ≡ after_call self.old (noted CallName.Read path.now result) }
+        ensures state { self.new ≡ after_call self.old (noted (Query.Read at_most) path.now result) }
         ensures exact { FailsExactly self.old (is_some (bytes_at self.old.nodes path.now)) result }
     {
         let found = match bytes_at(self.nodes.as_slice(), path) {
@@ -186,6 +190,6 @@ impl Tree for MemTree {
             }
             _ => None,
         };
-        self.answer(CallName::Read, path, found)
+        self.answer(Query::Read(at_most), path, found)
     }
 }

@@ -137,23 +137,23 @@ pub struct Node {
     pub held: Held,
 }
 
-/// The three kinds of calls of a tree.
+/// What a call of a tree asks about its path.
 #[derive(Clone, Copy)]
-pub enum CallName {
-    /// A query for the kind of what is at a path.
+pub enum Query {
+    /// The kind of what is there.
     Kind,
-    /// A query for the children of a folder.
+    /// The children of the folder.
     Children,
-    /// A query for the bytes of a file.
-    Read,
+    /// The first bytes of the file, at most this many.
+    Read(usize),
 }
 
 /// A call of a tree that returned `Ok` or [`TreeError::Failed`](crate::TreeError::Failed).
 #[derive(Drop)]
 pub struct Call {
-    /// Which function was called.
-    pub name: CallName,
-    /// The path that it was called with.
+    /// What it asked, and for a read how many bytes at most.
+    pub query: Query,
+    /// The path that it asked about.
     pub path: Name,
     /// Whether it returned [`TreeError::Failed`](crate::TreeError::Failed).
     pub failed: bool,

@@ -3,7 +3,7 @@
 ghost use Rattle.std.specs.Prelude.{◌≡◌, ℕ, take, Option, IfOk, IfSome, IsSomeAnd, Some};
 ghost use Rattle.rl_source.specs.Revealed.{Revealed, after};
 
-use crate::nodes::{CallName, Child, Kind};
+use crate::nodes::{Child, Kind, Query};
 use rl_lists::OutOfMemory;
 use std::alloc::{AllocError, AllocFailed};
 
@@ -71,7 +71,7 @@ pub trait Tree {
     /// - [`TreeError::Failed`] if nothing is there, or the tree couldn't answer for another reason.
     /// - [`TreeError::OutOfMemory`] if there is not enough memory.
     fn kind(&mut self, path: &str) -> Result<Kind, TreeError>
-        ensures told { told self.new ≡ after (noted CallName.Kind path.now result) (told self.old) }
+        ensures told { told self.new ≡ after (noted Query.Kind path.now result) (told self.old) }
         ensures answer { IfOk result (λ found. IfSome (told self.old)
             (λ t. kind_at t.nodes path.now ≡ Some found)) }
         ensures cause { HasTreeCause (fault_count self.old) (fault_count self.new) result };
@@ -82,7 +82,7 @@ pub trait Tree {
     /// - [`TreeError::Failed`] if no folder is there, or the tree couldn't answer for another reason.
     /// - [`TreeError::OutOfMemory`] if there is not enough memory.
     fn children(&mut self, path: &str) -> Result<Vec<Child>, TreeError>
-        ensures told { told self.new ≡ after (noted CallName.Children path.now result) (told self.old) }
+        ensures told { told self.new ≡ after (noted Query.Children path.now result) (told self.old) }
         ensures answer { IfOk result (λ found. IfSome (told self.old)
             (λ t. IsSomeAnd (children_at t.nodes path.now) (λ children. Lists children found.items))) }
         ensures cause { HasTreeCause (fault_count self.old) (fault_count self.new) result };
@@ -93,7 +93,7 @@ pub trait Tree {
     /// - [`TreeError::Failed`] if no file is there, or the tree couldn't answer for another reason.
     /// - [`TreeError::OutOfMemory`] if there is not enough memory.
     fn read(&mut self, path: &str, at_most: usize) -> Result<Vec<u8>, TreeError>
-        ensures told { told self.new ≡ after (noted CallName.Read path.now result) (told self.old) }
+        ensures told { told self.new ≡ after (noted (Query.Read at_most) path.now result) (told self.old) }
         ensures answer { IfOk result (λ bytes. IfSome (told self.old)
             (λ t. IsSomeAnd (bytes_at t.nodes path.now) (λ content. bytes.items ≡ take at_most content))) }
         ensures cause { HasTreeCause (fault_count self.old) (fault_count self.new) result };

@@ -6,7 +6,7 @@ use Rattle.rl_source.specs.Asked.{call_of}
 use Rattle.rl_source.specs.Distinct.{is_double, has_double, Lists}
 use Rattle.rl_source.specs.NodeMap.{children_at}
 use Rattle.rl_source.specs.declared.nodes.Call.{Call}
-use Rattle.rl_source.specs.declared.nodes.CallName.TheVariants as call
+use Rattle.rl_source.specs.declared.nodes.Query.TheVariants as query
 use Rattle.rl_source.specs.declared.nodes.Child.{Child}
 use Rattle.rl_source.specs.declared.nodes.Node.{Node}
 use Rattle.rl_source.proofs.Listed.{IsSomeAnd-listed}
@@ -55,7 +55,7 @@ determined n o (source i a w) (file_again j x) e = cc
 determined n o (source i a w) (unread j x) e = cc
 determined n o (source {path} {rest} {met} {calls} {visits} {content} i a w) (source {path = path2} {rest = rest2} {met = met2} {calls = calls2} {visits = visits2} {content = content2} j b x) e =
     let same : content ≡ content2 = cc in
-    let r = more (call_of call.Read path false) (Source path (take (MOST_BYTES + 1) content)) calls calls2 visits visits2 (determined n o w x cc) in
+    let r = more (call_of (query.Read (MOST_BYTES + 1)) path false) (Source path (take (MOST_BYTES + 1) content)) calls calls2 visits visits2 (determined n o w x cc) in
     (r.0, r.1 ∙ ap (λ c. Source path (take (MOST_BYTES + 1) c) ∷ visits2) same)
 determined n o (folder_again i w) (folder_again j x) e = determined n o w x e
 determined n o (folder_again i w) (too_deep j l x) e = cc

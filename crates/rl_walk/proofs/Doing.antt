@@ -9,7 +9,7 @@ use Rattle.rl_source.specs.Faults.{Rose}
 use Rattle.rl_source.specs.NodeMap.{kind_at, children_at, bytes_at}
 use Rattle.rl_source.specs.Revealed.{Revealed, after}
 use Rattle.rl_source.specs.declared.nodes.Call.{Call}
-use Rattle.rl_source.specs.declared.nodes.CallName.TheVariants as call
+use Rattle.rl_source.specs.declared.nodes.Query.TheVariants as query
 use Rattle.rl_source.specs.declared.nodes.Child.{Child}
 use Rattle.rl_source.specs.declared.nodes.Kind.{Kind}
 use Rattle.rl_source.specs.declared.nodes.Kind.TheVariants as kinds
@@ -148,10 +148,10 @@ module _ (path : List ℕ) (met next : Paths) (added : Bool) (says : added ≡ n
     on_new : (nodes : List Node) (rest : List Step) (calls : List Call) (visits : List Visit) → IsWalk nodes rest next calls visits → IsWalk nodes rest (met ++ path ∷ []) calls visits
     on_new nodes rest calls visits w = subst (λ (ps : Paths). IsWalk nodes rest ps calls visits) (goes ∙ with_path-new path met is_new) w
 
-    pub file-unread : (old new : Moment) (was now : List Visit → Type 0) → new.told ≡ after (call_of call.Read path true ∷ []) old.told → Rose old.faults new.faults
+    pub file-unread : (old new : Moment) (was now : List Visit → Type 0) → new.told ≡ after (call_of (query.Read (MOST_BYTES + 1)) path true ∷ []) old.told → Rose old.faults new.faults
         → ((visits : List Visit) → was visits → now (visits ++ Unreadable path ∷ [])) → Does (file path ∷ []) old new met next was now
     file-unread old new was now trail rose told = record {
-      calls = call_of call.Read path true ∷ [];
+      calls = call_of (query.Read (MOST_BYTES + 1)) path true ∷ [];
       visits = Unreadable path ∷ [];
       trail = trail;
       begins = λ t e. record { then = λ rest calls visits w. unread is_new (on_new t.nodes rest calls visits w) };
@@ -160,17 +160,17 @@ module _ (path : List ℕ) (met next : Paths) (added : Bool) (says : added ≡ n
       cause = λ h. rose;
     }
 
-    pub file-source : (old new : Moment) (was now : List Visit → Type 0) (bytes : List ℕ) → new.told ≡ after (call_of call.Read path false ∷ []) old.told
+    pub file-source : (old new : Moment) (was now : List Visit → Type 0) (bytes : List ℕ) → new.told ≡ after (call_of (query.Read (MOST_BYTES + 1)) path false ∷ []) old.told
         → IfSome old.told (λ t. IsSomeAnd (bytes_at t.nodes path) (λ content. bytes ≡ take (MOST_BYTES + 1) content))
         → ((visits : List Visit) → was visits → now (visits ++ Source path bytes ∷ [])) → Does (file path ∷ []) old new met next was now
     file-source old new was now bytes trail answer told = record {
-      calls = call_of call.Read path false ∷ [];
+      calls = call_of (query.Read (MOST_BYTES + 1)) path false ∷ [];
       visits = Source path bytes ∷ [];
       trail = trail;
       begins = λ t e. record {
         then = λ rest calls visits w.
             let found = some_answer (λ content. bytes ≡ take (MOST_BYTES + 1) content) (bytes_at t.nodes path) (told_answer (λ u. IsSomeAnd (bytes_at u.nodes path) (λ content. bytes ≡ take (MOST_BYTES + 1) content)) old.told t answer e) in
-            subst (λ bs. IsWalk t.nodes (file path ∷ rest) met (call_of call.Read path false ∷ calls) (Source path bs ∷ visits)) (sym found.2)
+            subst (λ bs. IsWalk t.nodes (file path ∷ rest) met (call_of (query.Read (MOST_BYTES + 1)) path false ∷ calls) (Source path bs ∷ visits)) (sym found.2)
             (source is_new found.1 (on_new t.nodes rest calls visits w));
       };
       told = told;
@@ -190,11 +190,11 @@ module _ (path : List ℕ) (met next : Paths) (added : Bool) (says : added ≡ n
       cause = λ h. absurd (false≢true h);
     }
 
-    pub folder-unlisted : (level : ℕ) (old new : Moment) (was now : List Visit → Type 0) → level ≤ MOST_LEVELS → new.told ≡ after (call_of call.Children path true ∷ []) old.told
+    pub folder-unlisted : (level : ℕ) (old new : Moment) (was now : List Visit → Type 0) → level ≤ MOST_LEVELS → new.told ≡ after (call_of query.Children path true ∷ []) old.told
         → Rose old.faults new.faults
         → ((visits : List Visit) → was visits → now (visits ++ Unreadable path ∷ [])) → Does (folder path level ∷ []) old new met next was now
     folder-unlisted level old new was now low trail rose told = record {
-      calls = call_of call.Children path true ∷ [];
+      calls = call_of query.Children path true ∷ [];
       visits = Unreadable path ∷ [];
       trail = trail;
       begins = λ t e. record { then = λ rest calls visits w. unlisted is_new low (on_new t.nodes rest calls visits w) };
@@ -204,18 +204,18 @@ module _ (path : List ℕ) (met next : Paths) (added : Bool) (says : added ≡ n
     }
 
     pub folder-listed : (level : ℕ) (old mid new : Moment) (last : Paths) (was now : List Visit → Type 0) (found sorted : List Child)
-        → level ≤ MOST_LEVELS → mid.told ≡ after (call_of call.Children path false ∷ []) old.told
+        → level ≤ MOST_LEVELS → mid.told ≡ after (call_of query.Children path false ∷ []) old.told
         → IfSome old.told (λ t. IsSomeAnd (children_at t.nodes path) (λ children. Lists children found))
         → IsInOrder found sorted → old.faults ≤ mid.faults
         → Does (steps_below path level sorted) mid new next last was now → Does (folder path level ∷ []) old new met last was now
     folder-listed level old mid new last was now found sorted low trail answer order later d = record {
-      calls = call_of call.Children path false ∷ d.calls;
+      calls = call_of query.Children path false ∷ d.calls;
       visits = d.visits;
-      trail = trail-more (call_of call.Children path false ∷ []) d.calls old.told mid.told new.told trail d.trail;
+      trail = trail-more (call_of query.Children path false ∷ []) d.calls old.told mid.told new.told trail d.trail;
       begins = λ t e. record {
         then = λ rest calls visits w.
             let has = some_answer (λ children. Lists children found) (children_at t.nodes path) (told_answer (λ u. IsSomeAnd (children_at u.nodes path) (λ children. Lists children found)) old.told t answer e) in
-            let goes_on = d.begins (record t { trail = t.trail ++ call_of call.Children path false ∷ [] }) (same_map (call_of call.Children path false ∷ []) old.told mid.told t trail e) in
+            let goes_on = d.begins (record t { trail = t.trail ++ call_of query.Children path false ∷ [] }) (same_map (call_of query.Children path false ∷ []) old.told mid.told t trail e) in
             listed is_new low has.1 (record { same = IsPermutation-trans has.0 found sorted has.2.same order.same; rising = order.rising })
             (on_new t.nodes (steps_below path level sorted ++ rest) (d.calls ++ calls) (d.visits ++ visits) (goes_on.then rest calls visits w));
       };
@@ -225,10 +225,10 @@ module _ (path : List ℕ) (met next : Paths) (added : Bool) (says : added ≡ n
     }
 
 module _ (path : List ℕ) where
-  pub named-unknown : (met : Paths) (old new : Moment) (was now : List Visit → Type 0) → new.told ≡ after (call_of call.Kind path true ∷ []) old.told → Rose old.faults new.faults
+  pub named-unknown : (met : Paths) (old new : Moment) (was now : List Visit → Type 0) → new.told ≡ after (call_of query.Kind path true ∷ []) old.told → Rose old.faults new.faults
       → ((visits : List Visit) → was visits → now (visits ++ Unreadable path ∷ [])) → Does (named path ∷ []) old new met met was now
   named-unknown met old new was now trail rose told = record {
-    calls = call_of call.Kind path true ∷ [];
+    calls = call_of query.Kind path true ∷ [];
     visits = Unreadable path ∷ [];
     trail = trail;
     begins = λ t e. record { then = λ rest calls visits w. unknown w };
@@ -250,16 +250,16 @@ module _ (path : List ℕ) where
   }
 
   pub named-known : (kind : Kind) (old mid new : Moment) (met last : Paths) (was now : List Visit → Type 0)
-      → mid.told ≡ after (call_of call.Kind path false ∷ []) old.told
+      → mid.told ≡ after (call_of query.Kind path false ∷ []) old.told
       → IfSome old.told (λ t. kind_at t.nodes path ≡ Some kind) → old.faults ≤ mid.faults
       → Does (step_for kind path ∷ []) mid new met last was now → Does (named path ∷ []) old new met last was now
   named-known kind old mid new met last was now trail answer later d = record {
-    calls = call_of call.Kind path false ∷ d.calls;
+    calls = call_of query.Kind path false ∷ d.calls;
     visits = d.visits;
-    trail = trail-more (call_of call.Kind path false ∷ []) d.calls old.told mid.told new.told trail d.trail;
+    trail = trail-more (call_of query.Kind path false ∷ []) d.calls old.told mid.told new.told trail d.trail;
     begins = λ t e. record {
       then = λ rest calls visits w.
-          let goes_on = d.begins (record t { trail = t.trail ++ call_of call.Kind path false ∷ [] }) (same_map (call_of call.Kind path false ∷ []) old.told mid.told t trail e) in
+          let goes_on = d.begins (record t { trail = t.trail ++ call_of query.Kind path false ∷ [] }) (same_map (call_of query.Kind path false ∷ []) old.told mid.told t trail e) in
           known (told_answer (λ u. kind_at u.nodes path ≡ Some kind) old.told t answer e) (goes_on.then rest calls visits w);
     };
     told = d.told;

@@ -12,7 +12,7 @@ use Rattle.rl_source.specs.Faults.{Rose}
 use Rattle.rl_source.specs.NodeMap.{kind_at, children_at, bytes_at}
 use Rattle.rl_source.specs.Revealed.{Revealed, after}
 use Rattle.rl_source.specs.declared.nodes.Call.{Call}
-use Rattle.rl_source.specs.declared.nodes.CallName.TheVariants as call
+use Rattle.rl_source.specs.declared.nodes.Query.TheVariants as query
 use Rattle.rl_source.specs.declared.nodes.Child.{Child}
 use Rattle.rl_source.specs.declared.nodes.Kind.{Kind}
 use Rattle.rl_source.specs.declared.nodes.Node.{Node}
@@ -31,15 +31,16 @@ pub data IsWalk (nodes : List Node) : List Step → List (List ℕ) → List Cal
   -- The kind of a given path is queried, each time that it is given.
   unknown : {path : List ℕ} {rest : List Step} {met : List (List ℕ)} {calls : List Call} {visits : List Visit}
       → IsWalk nodes rest met calls visits
-      → IsWalk nodes (named path ∷ rest) met (call_of call.Kind path true ∷ calls) (Unreadable path ∷ visits)
+      → IsWalk nodes (named path ∷ rest) met (call_of query.Kind path true ∷ calls) (Unreadable path ∷ visits)
   known : {path : List ℕ} {rest : List Step} {met : List (List ℕ)} {calls : List Call} {visits : List Visit} {kind : Kind}
       → kind_at nodes path ≡ Some kind
       → IsWalk nodes (step_for kind path ∷ rest) met calls visits
-      → IsWalk nodes (named path ∷ rest) met (call_of call.Kind path false ∷ calls) visits
+      → IsWalk nodes (named path ∷ rest) met (call_of query.Kind path false ∷ calls) visits
   not_plain : {path : List ℕ} {rest : List Step} {met : List (List ℕ)} {calls : List Call} {visits : List Visit}
       → IsWalk nodes rest met calls visits
       → IsWalk nodes (other path ∷ rest) met calls (NotPlain path ∷ visits)
-  -- A file that was met before is skipped. Any other file is met now, and read.
+  -- A file that was met before is skipped. Any other file is met now, and read: the call asks for one byte more than a source
+  -- may have.
   file_again : {path : List ℕ} {rest : List Step} {met : List (List ℕ)} {calls : List Call} {visits : List Visit}
       → is_met path met ≡ true
       → IsWalk nodes rest met calls visits
@@ -47,12 +48,12 @@ pub data IsWalk (nodes : List Node) : List Step → List (List ℕ) → List Cal
   unread : {path : List ℕ} {rest : List Step} {met : List (List ℕ)} {calls : List Call} {visits : List Visit}
       → is_met path met ≡ false
       → IsWalk nodes rest (met ++ path ∷ []) calls visits
-      → IsWalk nodes (file path ∷ rest) met (call_of call.Read path true ∷ calls) (Unreadable path ∷ visits)
+      → IsWalk nodes (file path ∷ rest) met (call_of (query.Read (MOST_BYTES + 1)) path true ∷ calls) (Unreadable path ∷ visits)
   source : {path : List ℕ} {rest : List Step} {met : List (List ℕ)} {calls : List Call} {visits : List Visit} {content : List ℕ}
       → is_met path met ≡ false
       → bytes_at nodes path ≡ Some content
       → IsWalk nodes rest (met ++ path ∷ []) calls visits
-      → IsWalk nodes (file path ∷ rest) met (call_of call.Read path false ∷ calls) (Source path (take (MOST_BYTES + 1) content) ∷ visits)
+      → IsWalk nodes (file path ∷ rest) met (call_of (query.Read (MOST_BYTES + 1)) path false ∷ calls) (Source path (take (MOST_BYTES + 1) content) ∷ visits)
   -- A folder that was met before is skipped. Any other folder is met now, and entered unless it is too deep.
   folder_again : {path : List ℕ} {level : ℕ} {rest : List Step} {met : List (List ℕ)} {calls : List Call} {visits : List Visit}
       → is_met path met ≡ true
@@ -67,7 +68,7 @@ pub data IsWalk (nodes : List Node) : List Step → List (List ℕ) → List Cal
       → is_met path met ≡ false
       → level ≤ MOST_LEVELS
       → IsWalk nodes rest (met ++ path ∷ []) calls visits
-      → IsWalk nodes (folder path level ∷ rest) met (call_of call.Children path true ∷ calls) (Unreadable path ∷ visits)
+      → IsWalk nodes (folder path level ∷ rest) met (call_of query.Children path true ∷ calls) (Unreadable path ∷ visits)
   -- The children come in the order of their names, before the steps that were left to do.
   listed : {path : List ℕ} {level : ℕ} {rest : List Step} {met : List (List ℕ)} {calls : List Call} {visits : List Visit} {children sorted : List Child}
       → is_met path met ≡ false
@@ -75,7 +76,7 @@ pub data IsWalk (nodes : List Node) : List Step → List (List ℕ) → List Cal
       → children_at nodes path ≡ Some children
       → IsInOrder children sorted
       → IsWalk nodes (steps_below path level sorted ++ rest) (met ++ path ∷ []) calls visits
-      → IsWalk nodes (folder path level ∷ rest) met (call_of call.Children path false ∷ calls) visits
+      → IsWalk nodes (folder path level ∷ rest) met (call_of query.Children path false ∷ calls) visits
 
 -- Whether the visit is `Unreadable`, which reports that a call of the tree for its path failed.
 abbrev pub is_unreadable : Visit → Bool

@@ -9,9 +9,10 @@
 //! # What is proved
 //!
 //! If the tree reveals its map and its trail, the calls of the walk and its visits are exactly those of the rules, in
-//! order. Some call failed if and only if some visit is [`Visit::Unreadable`]. If no path occurs twice in the map and no name
-//! twice in a folder, then by [`walks_are_determined`] the map, the paths, and which calls failed determine the calls and the
-//! visits. If the walk runs out of memory, the contract doesn't specify the trail.
+//! order; each read asks for at most [`MOST_BYTES`](rl_lists::MOST_BYTES) bytes and one more. Some call failed if and only if
+//! some visit is [`Visit::Unreadable`]. If no path occurs twice in the map and no name twice in a folder, then by
+//! [`walks_are_determined`] the map, the paths, and which calls failed determine the calls and the visits. If the walk runs
+//! out of memory, the contract doesn't specify the trail.
 //!
 //! # Example
 //!
