@@ -17,4 +17,3 @@ pub mod FoundLaws
 pub mod InnerLaws
 pub mod DoubleList
 pub mod FoundTriples
-pub mod MarkLaws

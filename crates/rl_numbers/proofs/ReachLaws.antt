@@ -37,6 +37,23 @@ has-any q (x ∷ keys) (inr h) = any-right (eqb q x) (list_any (eqb q) keys) (ha
 pub any-none : (q : ℕ) (keys : List ℕ) → list_any (eqb q) keys ≡ false → Has q keys → ⊥
 any-none q keys e h = true≢false (sym (has-any q keys h) ∙ e)
 
+-- The same with the numbers the other way round.
+pub any-there : (q : ℕ) (l : List ℕ) → list_any (λ x. eqb x q) l ≡ true → Has q l
+any-there q [] h = cc
+any-there q (x ∷ l) h = by (any-step (eqb x q) (list_any (λ y. eqb y q) l) h) (any-there q l)
+  where
+    by : (eqb x q ≡ true) ⊎ (list_any (λ y. eqb y q) l ≡ true) → (list_any (λ y. eqb y q) l ≡ true → Has q l) → (q ≡ x) ⊎ Has q l
+    by (inl e) rest = inl (sym (eqb-true x q e))
+    by (inr e) rest = inr (rest e)
+
+there-is : (q : ℕ) (l : List ℕ) → Has q l → list_any (λ x. eqb x q) l ≡ true
+there-is q [] h = absurd h
+there-is q (x ∷ l) (inl e) = any-left (eqb x q) (list_any (λ y. eqb y q) l) (eq-eqb x q (sym e))
+there-is q (x ∷ l) (inr h) = any-right (eqb x q) (list_any (λ y. eqb y q) l) (there-is q l h)
+
+pub there-any : (q : ℕ) (l : List ℕ) → list_any (λ x. eqb x q) l ≡ false → Has q l → ⊥
+there-any q l e h = true≢false (sym (there-is q l h) ∙ e)
+
 -- One more key
 
 pub put-has : (q : ℕ) (old new : List ℕ) → IsPut q old new → Has q new

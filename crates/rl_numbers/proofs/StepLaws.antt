@@ -1,5 +1,5 @@
 -- The steps of a triple, letter by letter, and the properties that are looked at, as the numbers of the triples.
-use Rattle.std.proofs.Common.{◌≡◌, ◌≢◌, ◌∙◌, ℕ, ◌<◌, ◌≤◌, ◌⊎◌, inl, inr, ◌↔◌, IsTrue, List, [], ◌∷◌, Option, Some, None, is_some, refl, sym, ap, subst, arith, true≢false}
+use Rattle.std.proofs.Common.{◌≡◌, ◌≢◌, ◌∙◌, ℕ, ◌<◌, ◌≤◌, ◌⊎◌, inl, inr, ◌↔◌, IsTrue, List, [], ◌∷◌, Option, Some, None, is_some, get_or, refl, sym, ap, subst, arith, true≢false}
 use Rattle.std.specs.Option.{option_map_or}
 use Rattle.std.proofs.lemmas.Bool.{cases_lt}
 use Rattle.rl_graph.specs.Paths.{Has, Each}
@@ -9,6 +9,8 @@ use Rattle.rl_graph.proofs.Sums.{Each-has, each-has}
 use mathlib.Core.Path.{fun_ext}
 use Rattle.rl_graph.proofs.GraphLaws.{bounded-whole}
 use Rattle.rl_numbers.specs.declared.triple.Triple.{Triple}
+use Rattle.rl_numbers.specs.Level.{table_of}
+use Rattle.rl_numbers.specs.internal.Inner.{IsInner}
 use Rattle.rl_numbers.specs.Numbered.{triple_at, is_triple, triple_number, OnceEach, IsLevel, AreTriples}
 use Rattle.rl_numbers.specs.internal.NumberedFalls.{FirstsFall, StepsFall, IsApart, HasSplitStarts, HoldsIn, AllHold}
 use Rattle.rl_numbers.proofs.IndexLaws.{at-there, at-once}
@@ -112,3 +114,28 @@ all-decide g p at rank l parts same once = (there, back)
           each-has (HoldsIn (edges_of g) g.states (triple_at l) rank) l (λ t i. (Each-has (IsLevel g.states rank) t l are.levels i, steps_of (edges_of g) g.states rank l are t i, apart_of (edges_of g) g.states rank l are t i)),
           λ r q lr lq ne e cr cq. are.numbers.starts r q lr lq ne e ((parts.on_cycle r lr).0 cr) ((parts.on_cycle q lq).0 cq),
         )
+
+-- Of the moves of a triple's states only those to states of its rank matter, and parallel ones don't.
+module _ (g h : Graph) (ranks : List ℕ) (i : IsInner g (table_of ranks) h) (at : ℕ → ℕ → ℕ → Option ℕ) where
+  inner-steps : (t : Triple) → IsLevel g.states (λ x. get_or ranks x 0) t → StepsFall (edges_of h) at (λ x. get_or ranks x 0) t ↔ StepsFall (edges_of g) at (λ x. get_or ranks x 0) t
+  inner-steps t level = (
+    λ falls l x hx rx y hy ry z hz rz. falls l x ((i.kept t.p l x).1 (hx, rx)) rx y ((i.kept t.q l y).1 (hy, ry ∙ sym level.3)) ry z ((i.kept t.r l z).1 (hz, rz ∙ sym level.4)) rz,
+    λ falls l x hx rx y hy ry z hz rz. falls l x ((i.kept t.p l x).0 hx).0 rx y ((i.kept t.q l y).0 hy).0 ry z ((i.kept t.r l z).0 hz).0 rz,
+  )
+
+  inner-holds : (t : Triple) → HoldsIn (edges_of h) h.states at (λ x. get_or ranks x 0) t ↔ HoldsIn (edges_of g) g.states at (λ x. get_or ranks x 0) t
+  inner-holds t = (there, back)
+    where
+      there : HoldsIn (edges_of h) h.states at (λ x. get_or ranks x 0) t → HoldsIn (edges_of g) g.states at (λ x. get_or ranks x 0) t
+      there a =
+          let level = subst (λ (n : ℕ). IsLevel n (λ x. get_or ranks x 0) t) i.same_states a.0 in
+          (level, (inner-steps t level).0 a.1, a.2)
+
+      back : HoldsIn (edges_of g) g.states at (λ x. get_or ranks x 0) t → HoldsIn (edges_of h) h.states at (λ x. get_or ranks x 0) t
+      back a = (subst (λ (n : ℕ). IsLevel n (λ x. get_or ranks x 0) t) (sym i.same_states) a.0, (inner-steps t a.0).1 a.1, a.2)
+
+  pub each-inner : (l : List Triple) → Each (HoldsIn (edges_of h) h.states at (λ x. get_or ranks x 0)) l ↔ Each (HoldsIn (edges_of g) g.states at (λ x. get_or ranks x 0)) l
+  each-inner l = (
+    each-part (HoldsIn (edges_of h) h.states at (λ x. get_or ranks x 0)) (HoldsIn (edges_of g) g.states at (λ x. get_or ranks x 0)) l (λ t. (inner-holds t).0),
+    each-part (HoldsIn (edges_of g) g.states at (λ x. get_or ranks x 0)) (HoldsIn (edges_of h) h.states at (λ x. get_or ranks x 0)) l (λ t. (inner-holds t).1),
+  )

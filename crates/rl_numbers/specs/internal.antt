@@ -1,7 +1,6 @@
 -- Definitions for the contracts of private functions. No public contract reaches them.
 pub mod Diagonal
 pub mod Inner
-pub mod Marks
 pub mod DoubledFalls
 pub mod NumberedFalls
 pub mod Spreading

@@ -1,37 +1,14 @@
 use Rattle.std.proofs.Common.{arith}
-use Rattle.rl_numbers.proofs.InnerLaws.{inner-done}
+use Rattle.rl_numbers.proofs.InnerLaws.{inner-few}
 use Rattle.rl_numbers.specs.Level.{table_of}
 use Rattle.rl_numbers.proofs.leveling.level_graph.Goals as goal
 
 pub returns-clause-level : goal.returns-clause-level
-returns-clause-level c =
-    let i = inner-done c.args.g.now (table_of c.args.ranks.now) c.loop-state.state c.loop-state.inner (omega (arith, c.loop-state-test.false, c.states-state-end.ensures.number)) c.loop-state.invariant.so_far in
-    record { states = i.same_states; kept = i.kept }
+returns-clause-level c = record { states = c.in_ok-inner.ensures.same_states; kept = c.in_ok-inner.ensures.kept }
 
 pub returns-clause-letters : goal.returns-clause-letters
-returns-clause-letters c =
-    let i = inner-done c.args.g.now (table_of c.args.ranks.now) c.loop-state.state c.loop-state.inner (omega (arith, c.loop-state-test.false, c.states-state-end.ensures.number)) c.loop-state.invariant.so_far in
-    i.same_letters
-
-pub add_level_from-requires-clause-few_states : goal.add_level_from-requires-clause-few_states
-add_level_from-requires-clause-few_states c = c.requires.few_states
-
-pub add_level_from-requires-clause-state_in : goal.add_level_from-requires-clause-state_in
-add_level_from-requires-clause-state_in c = omega (arith, c.loop-state-test.true, c.states-state-end.ensures.number)
-
-pub add_level_from-requires-clause-size : goal.add_level_from-requires-clause-size
-add_level_from-requires-clause-size c = c.requires.size
-
-pub add_level_from-requires-clause-so_far : goal.add_level_from-requires-clause-so_far
-add_level_from-requires-clause-so_far c = c.loop-state.invariant.so_far
-
-pub add_level_from-requires-clause-bare : goal.add_level_from-requires-clause-bare
-add_level_from-requires-clause-bare c = c.loop-state.invariant.bare
-
-pub loop-state-preserved : goal.loop-state-preserved
-loop-state-preserved c = record { so_far = c.in-Ok.ensures.so_far; bare = c.in-Ok.ensures.bare }
+returns-clause-letters c = c.in_ok-inner.ensures.same_letters
 
 pub returns-clause-few : goal.returns-clause-few
-returns-clause-few c =
-    let i = inner-done c.args.g.now (table_of c.args.ranks.now) c.loop-state.state c.loop-state.inner (omega (arith, c.loop-state-test.false, c.states-state-end.ensures.number)) c.loop-state.invariant.so_far in
-    i.few
+returns-clause-few c = λ q l.
+    omega (arith, inner-few c.args.g.now (table_of c.args.ranks.now) c.in_ok-inner.inner c.states-states.ensures.whole c.in_ok-inner.ensures q l, c.requires.few_states)

@@ -2,7 +2,7 @@ use Rattle.rl_numbers.specs.internal.Inner.{IsInnerUpTo}
 use Rattle.rl_kernel.proofs.InnerLaws.{IsFilling}
 use Rattle.rl_numbers.proofs.InnerLaws.{IsRowUpTo}
 use Rattle.rl_numbers.specs.Level.{table_of}
-use Rattle.rl_numbers.proofs.leveling.add_few_on.Given as goal
+use Rattle.rl_numbers.proofs.leveling.add_level_on.Given as goal
 
 abbrev pub invariant-loop-place : goal.invariant-loop-place
 invariant-loop-place l = record {

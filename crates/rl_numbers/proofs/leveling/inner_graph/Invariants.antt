@@ -1,6 +1,6 @@
 use Rattle.rl_numbers.specs.internal.Inner.{IsBareFrom, IsInnerUpTo}
 use Rattle.rl_numbers.specs.Level.{table_of}
-use Rattle.rl_numbers.proofs.leveling.level_graph.Given as goal
+use Rattle.rl_numbers.proofs.leveling.inner_graph.Given as goal
 
 abbrev pub invariant-loop-state : goal.invariant-loop-state
 invariant-loop-state l = record {
