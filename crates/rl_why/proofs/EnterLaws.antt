@@ -1,8 +1,8 @@
 -- Ways follow one another, and a pump is read behind its head as behind itself.
-use Rattle.std.proofs.Common.{◌≡◌, ℕ, zero, suc, ◌+◌, ◌*◌, ◌/◌, ◌%◌, ◌<◌, ◌≤◌, ⊎_elim, Bool, true, false, List, [], ◌∷◌, ◌++◌, length, map, All, Option, None, Some, slice_get, option_map, nat_lt, if◌then◌else◌, refl, sym, ap, ap₂, ◌∙◌, subst, arith}
+use Rattle.std.proofs.Common.{◌≡◌, ℕ, zero, suc, ◌/◌, ◌<◌, ◌≤◌, Bool, true, false, List, [], ◌∷◌, ◌++◌, length, map, All, Option, None, Some, slice_get, option_map, nat_lt, if◌then◌else◌, refl, sym, ap, ap₂, ◌∙◌, subst, arith}
 use Rattle.std.proofs.lemmas.List.Elements.{All-head, All-tail}
 use Rattle.std.proofs.lemmas.Option.{slice_get-map, none-some, same_Some}
-use Rattle.rl_graph.specs.Paths.{onto, led, IsPath}
+use Rattle.rl_graph.specs.Paths.{led, IsPath}
 use Rattle.rl_ranges.specs.Letters.{alike, classes, letter_at}
 use Rattle.rl_ranges.proofs.LetterLemmas.{alike-itself, alike-back, alike-onward, class_found, class_of-same}
 use Rattle.rl_syntax.specs.declared.re.Ending.{Ending}
@@ -14,7 +14,8 @@ use Rattle.rl_prio.specs.States.{place_states, state_of, accepting, dead, ends_h
 use Rattle.rl_prio.specs.Automaton.{Automaton, moves_at}
 use Rattle.rl_prio.specs.StandsFor.{StandsFor}
 use Rattle.rl_prio.proofs.LikenessLemmas.{Finer-second, Like, all_hold-like}
-use Rattle.rl_ways.specs.Told.{ToldItem, item_at, item_of}
+use Rattle.rl_ways.specs.declared.item.ToldItem.{ToldItem}
+use Rattle.rl_ways.specs.Told.{item_at, item_of}
 use Rattle.rl_ways.specs.Ways.{open_ones, target_of, told_at, told_of, told_moves, if_taken, if_any, text_way, last_place, Leads, place_of_state, last_code, last_of}
 use Rattle.rl_ways.proofs.WayLaws.{targets-told_moves}
 use Rattle.rl_ways.proofs.LinkLaws.{opened, same_move, IsPlace, Known, told_at-known, open-known, known_index, At, at-place, reads}

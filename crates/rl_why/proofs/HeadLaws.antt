@@ -1,9 +1,9 @@
 -- The heads of a family lead to the places from which its pumps are read.
-use Rattle.std.proofs.Common.{◌≡◌, ℕ, zero, suc, ◌+◌, ◌<◌, ◌≤◌, ⊎_elim, Bool, true, false, List, [], ◌∷◌, length, map, get_or, All, Option, None, Some, if◌then◌else◌, eqb, refl, sym, ap, ◌∙◌, subst, arith}
+use Rattle.std.proofs.Common.{◌≡◌, ℕ, zero, suc, ◌<◌, ◌≤◌, ⊎_elim, Bool, true, false, List, [], ◌∷◌, length, map, get_or, All, Option, None, if◌then◌else◌, eqb, refl, sym, ap, ◌∙◌, subst, arith}
 use Rattle.std.proofs.lemmas.Bool.{cases_lt}
 use Rattle.std.proofs.lemmas.List.{length-map, get_or-map}
 use Rattle.std.proofs.lemmas.List.Elements.{All-get_or, All-head}
-use Rattle.rl_graph.specs.Paths.{paths, IsPath, Has}
+use Rattle.rl_graph.specs.Paths.{paths, IsPath}
 use Rattle.rl_graph.specs.Twins.{Link}
 use Rattle.rl_graph.proofs.PathLaws.{split-word}
 use Rattle.rl_graph.proofs.TwinPaths.{path-there}

@@ -8,7 +8,10 @@ use Rattle.rl_syntax.specs.Tree.{Tree, empty, one, guard, both, either, many, pl
 use Rattle.rl_syntax.specs.Run.{one_more}
 use Rattle.rl_prio.specs.Items.{set_of, all_hold}
 use Rattle.rl_ways.specs.declared.origin.Origin.{Origin}
-use Rattle.rl_ways.specs.Told.{ToldItem, Decision, left, right, round, stop, led, all_led, decided, continued, replaced, told_end, told_first, told_after}
+use Rattle.rl_ways.specs.declared.item.Decision.{Decision}
+use Rattle.rl_ways.specs.declared.item.Decision.TheVariants.{Left as left, Right as right, Round as round, Stop as stop}
+use Rattle.rl_ways.specs.declared.item.ToldItem.{ToldItem}
+use Rattle.rl_ways.specs.Told.{all_led, decided, continued, replaced, told_first, told_after}
 use Rattle.rl_ways.specs.Ways.{open_ones, told_at, if_taken, if_any, text_way, last_place, Leads}
 use Rattle.rl_why.specs.Shown.{origin_at}
 use Rattle.rl_why.specs.Loops.{all_below, none_below, loop_over, with_place, taking, loop_of}

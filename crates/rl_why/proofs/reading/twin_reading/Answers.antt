@@ -4,7 +4,7 @@ use Rattle.rl_graph.proofs.TwinPaths.{path-counts}
 use Rattle.rl_syntax.specs.Tree.{tree_of}
 use Rattle.rl_pairs.specs.PairTable.{moves_in}
 use Rattle.rl_why.specs.Shown.{shown, PartAt}
-use Rattle.rl_why.specs.Readings.{AreTwinWays}
+use Rattle.rl_why.specs.Readings.{TwinReading, AreTwinWays}
 use Rattle.rl_why.specs.internal.Numbers.{numbers_in}
 use Rattle.rl_why.proofs.ReadingLaws.{place-as, two-ways, twin-shown, twin-some}
 use Rattle.rl_why.proofs.reading.twin_reading.Goals as goal
@@ -57,7 +57,8 @@ returns c =
     c.requires.text one other place c.last_of.ensures in
     let first = rw c.in-Some.is at c.in_ok-found.ensures.first in
     let second = rw c.in-Some.is at c.in_ok-found.ensures.second in
-    subst (λ x. AreTwinWays t c.args.sources.now.nodes c.args.text.now x _) place
-    (twin-shown t c.args.sources.now.nodes c.args.text.now c.as_slice-3.result.now c.as_slice-4.result.now c.place_of_state-place.result c.last_of.result c.in-Some.ways.first c.in-Some.ways.second _ two c.last_of.ensures first second
+    let reading : TwinReading = record { first = c.in_ok-first-in-Some.first; second = c.in_ok-second-in-Some.second; parts = c.parting-parts.result } in
+    subst (λ x. AreTwinWays t c.args.sources.now.nodes c.args.text.now x reading) place
+    (twin-shown t c.args.sources.now.nodes c.args.text.now c.as_slice-3.result.now c.as_slice-4.result.now c.place_of_state-place.result c.last_of.result c.in-Some.ways.first c.in-Some.ways.second reading two c.last_of.ensures first second
     (c.in_ok-first-in-Some.ensures ∙ ap (shown c.args.sources.now.nodes) c.as_slice-in-Some.ensures) (c.in_ok-second-in-Some.ensures ∙ ap (shown c.args.sources.now.nodes) c.as_slice-in-Some-2.ensures)
     (λ k h. c.parting-parts.ensures k (subst (λ l. PartAt k l c.as_slice-in-Some-4.result.now) (sym c.as_slice-in-Some-3.ensures) (subst (PartAt k c.in_ok-first-in-Some.first) (sym c.as_slice-in-Some-4.ensures) h))))
