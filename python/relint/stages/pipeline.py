@@ -28,6 +28,8 @@ from .worker import Worker
 PART_OF_THE_TIME = 0.85
 # The part of that in which reports are read.
 PART_OF_READING = 0.4
+# One worker is forked at once for so many files.
+FILES_OF_A_WORKER = 32
 # Fixes are looked for until all processors have taken so many seconds.
 SECONDS_OF_FIXES = 10.0
 REPORTED = (".py", ".pyi", ".ipynb")
@@ -75,7 +77,8 @@ def opened(options: Options, progress: Optional[Progress] = None) -> Iterator[Ru
     with ExitStack() as stack:
         scratch = stack.enter_context(Scratch()) if earlier is not None else ""
         folders = (*chosen.folders, scratch) if scratch else chosen.folders
-        pool = stack.enter_context(Pool(options.jobs, Worker(folders).work, deadline))
+        early = 1 + len(chosen.files) // FILES_OF_A_WORKER
+        pool = stack.enter_context(Pool(options.jobs, Worker(folders).work, deadline, early))
         made = Run(options, chosen, pool, asker, deadline, begun, earlier, scratch, progress, rate.kept())
         for it in (asker.close, made.close, *([earlier.close] if earlier is not None else [])):
             stack.callback(it)
