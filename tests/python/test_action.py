@@ -102,7 +102,7 @@ class Stranger(unittest.TestCase):
                  "github.server_url": "https://example.org", "github.action_repository": "a/b", "github.action_ref": "v2"}
 
         def filled(value: str) -> str:
-            """A value with what stands in `${{ }}`, which may itself have some; of names with `||` the first that isn't empty."""
+            """A value with what is in its `${{ }}`, which may have some too; of names with `||` the first that isn't empty."""
             for _ in range(2):
                 value = re.sub(r"\$\{\{ (.*?) \}\}",
                                lambda it: next(filter(None, [known[name] for name in it[1].split(" || ")]), ""), value)
