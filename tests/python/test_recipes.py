@@ -209,7 +209,7 @@ class Files(unittest.TestCase):
         self.assertLessEqual(set(given), set(inputs))
 
     def test_no_page_runs_a_module_of_the_current_folder(self) -> None:
-        pages = [*TOP.glob("*.md"), *TOP.glob("docs/*.md"), *TOP.glob("examples/**/*"), *TOP.glob("editors/**/*")]
+        pages = [*TOP.glob("*.md"), *TOP.glob("docs/*.md"), *TOP.glob("examples/**/*")]
         for path in (it for it in pages if it.is_file() and it.name != "SECURITY.md"):
             self.assertNotRegex(path.read_text(encoding="utf-8", errors="replace"), r"python3? -m relint", path)
 
