@@ -56,7 +56,6 @@ class _Place:
         return self.copy / "examples" / "ci" / name
 
     def project(self, files: Dict[str, str]) -> Path:
-        """A new folder with these files."""
         project = Path(tempfile.mkdtemp(dir=str(self.folder)))
         for path, text in files.items():
             place = project / path
@@ -106,7 +105,6 @@ def _shell_of(path: Path) -> str:
 
 
 def tests_of(place: _Place) -> List[Tuple[str, Callable[[], None]]]:
-    """Each test with its name."""
     tests: List[Tuple[str, Callable[[], None]]] = [("examples/compare", partial(_compare, place))]
     for path in scratch.files_of_tree():
         if path.parts[0] == "examples" and _shell_of(place.copy / path):
@@ -117,7 +115,6 @@ def tests_of(place: _Place) -> List[Tuple[str, Callable[[], None]]]:
 
 
 def run(program: Program) -> Result:
-    """Runs the examples."""
     result = Result()
     with tempfile.TemporaryDirectory() as folder:
         for name, test in tests_of(_Place(Path(folder), program)):

@@ -97,11 +97,9 @@ class Pool:
             self._start()
 
     def __enter__(self) -> "Pool":
-        """Returns the pool itself."""
         return self
 
     def __exit__(self, *_: object) -> None:
-        """Ends the workers."""
         self.close()
 
     def close(self) -> None:
