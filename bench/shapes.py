@@ -86,7 +86,6 @@ class Maker:
     """Makes random shapes, and changes them. The same seed and the same calls give the same ones."""
 
     def __init__(self, seed: int) -> None:
-        """Takes the seed."""
         self.random = random.Random(seed)
 
     def size(self, most: int) -> int:

@@ -60,7 +60,6 @@ class Stopped(BaseException):
     """Raised by a signal that ends the command, so that what it started and made is taken away."""
 
     def __init__(self, number: int) -> None:
-        """Takes the number of the signal."""
         super().__init__()
         self.number = number
 
@@ -196,7 +195,6 @@ def ran(options: Options) -> Tuple[List[Finding], Summary, int]:
 
 
 def check(options: Options) -> int:
-    """Does `rlt check`, and returns the status."""
     return shown(*ran(options), options)
 
 
@@ -277,7 +275,6 @@ def _named(findings: Sequence[Finding], options: Options) -> List[Finding]:
 
 
 def explain(options: Options) -> int:
-    """Does `rlt explain`, and returns the status."""
     from .base.words import explained, pages, topics
 
     topic = options.arguments[0]

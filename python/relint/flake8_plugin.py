@@ -15,7 +15,6 @@ from .base.words import danger, outcome, rule_of
 from .engine.program import ProgramError, located
 from .options import version
 from .stages.buffer import Judge, NotJudged
-from .stages.pipeline import fails_strictly
 
 Violation = Tuple[int, int, str, Type["Plugin"]]
 NOT_READ = "RLT203"
@@ -60,7 +59,8 @@ class Plugin:
         run = opened.run
         for it in opened.findings:
             # (with `strict` in the configuration, what isn't decided or judged is a violation too)
-            if it.state == NEW or it.entry.call is None or run.options.strict and fails_strictly(it, run.options):
+            is_strict = run.options.strict and it.fails_strictly(run.options.max_degree)
+            if it.state == NEW or it.entry.call is None or is_strict:
                 words = danger(it, run.steps_a_second) if it.state == NEW else outcome(it)
                 yield it.place.line, it.place.column - 1, line(f"{rule_of(it)} {words}"), Plugin
         for why in opened.lost:

@@ -46,7 +46,6 @@ class OptionsError(Exception):
     """Raised if the words or the configuration can't be used; the message says why, `status` is the exit status."""
 
     def __init__(self, message: str, status: int = 2) -> None:
-        """Takes the message and the exit status."""
         super().__init__(message)
         self.status = status
 

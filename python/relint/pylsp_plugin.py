@@ -26,7 +26,6 @@ class Asked:
     """A process that answers, one question at a time; it is started for the first one, and anew after it ended."""
 
     def __init__(self) -> None:
-        """Begins without a process."""
         self._process: Optional["subprocess.Popen[bytes]"] = None
         self._lock = threading.Lock()
 

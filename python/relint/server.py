@@ -43,12 +43,10 @@ class Lines:
     """The lines of a text, to go from offsets to positions and back."""
 
     def __init__(self, text: str) -> None:
-        """Takes the text."""
         self.text = text
         self.starts = [0] + [it.end() for it in LINE_END.finditer(text)]
 
     def position(self, offset: int) -> Json:
-        """Returns the position of an offset."""
         line = bisect_right(self.starts, offset) - 1
         front = self.text[self.starts[line]:offset]
         return {"line": line, "character": len(front.encode("utf-16-le", "surrogatepass")) // 2}
@@ -68,7 +66,6 @@ class Kept:
     """What was found in a text; `opened` is None without an answer, and then `failure` says why, or "" for one left out."""
 
     def __init__(self, text: str, opened: Optional[buffer.Opened], failure: str = "") -> None:
-        """Takes the text, and what was found."""
         self.text, self.opened, self.failure = text, opened, failure
         self.lines, self.front = Lines(text), int(text.startswith("\ufeff"))
 
@@ -83,7 +80,6 @@ class Kept:
         return {"start": self.lines.position(first), "end": self.lines.position(last)}
 
     def found(self) -> List[Finding]:
-        """Returns the findings."""
         return self.opened.findings if self.opened is not None else []
 
 
@@ -91,7 +87,6 @@ class Editor:
     """Answers about texts that are open, each of which has a URI; a text is judged again only if it changed."""
 
     def __init__(self, words: Sequence[str] = ()) -> None:
-        """Takes options of the command line."""
         self.judge = buffer.Judge(words, "accept")
         self._kept: Dict[str, Kept] = {}
 
@@ -352,7 +347,6 @@ class Server:
         return hover_of(lines, self.shows_code)
 
     def actions(self, params: Json) -> List[Json]:
-        """Returns the actions for a range."""
         uri, only = params["textDocument"]["uri"], (params.get("context") or {}).get("only")
         if uri not in self.texts or only and FIX_KIND not in only:
             return []

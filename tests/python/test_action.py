@@ -70,7 +70,7 @@ class Stranger(unittest.TestCase):
             put(self.origin / name, text)
         self.git("init", "-q", "-b", "main", ".")
         self.commit()
-        self.base = self.git("rev-parse", "main").strip()
+        self.base, self.base_is_in = self.git("rev-parse", "main").strip(), "github.event.pull_request.base.sha"
         self.git("checkout", "-q", "-b", "change")
 
     def git(self, *words: str, where: str = "origin") -> str:
@@ -98,13 +98,14 @@ class Stranger(unittest.TestCase):
         """Runs the steps with these inputs, and the defaults of action.yml for the others."""
         text = (TOP / "action.yml").read_text(encoding="utf-8")
         defaults = dict(re.findall(r"^  (\w+):\n +description: .*(?:\n {6}.*)*\n +default: \"?([^\"\n]*)", text, re.M))
-        known = {"github.event.pull_request.base.sha": self.base, "github.server_url": "https://example.org",
-                 "github.action_repository": "a/b", "github.action_ref": "v2"}
+        known = {"github.event.pull_request.base.sha": "", "github.event.merge_group.base_sha": "", self.base_is_in: self.base,
+                 "github.server_url": "https://example.org", "github.action_repository": "a/b", "github.action_ref": "v2"}
 
         def filled(value: str) -> str:
-            """A value with what stands in `${{ }}`, which may itself have some."""
+            """A value with what is in its `${{ }}`, which may have some too; of names with `||` the first that isn't empty."""
             for _ in range(2):
-                value = re.sub(r"\$\{\{ (.*?) \}\}", lambda it: known[it[1]], value)
+                value = re.sub(r"\$\{\{ (.*?) \}\}",
+                               lambda it: next(filter(None, [known[name] for name in it[1].split(" || ")]), ""), value)
             return value
 
         known.update({f"inputs.{name}": it for name, it in {**defaults, **inputs}.items()})
@@ -139,6 +140,11 @@ class Stranger(unittest.TestCase):
         self.assert_red(self.checked(self.attack), *said)
         # (without the commit before the change, which the step adds, the same change is green)
         self.assertEqual(self.stepped({"base": "", "arguments": "--tracked"}).status, 0)
+
+    def test_a_merge_queue(self) -> None:
+        self.base_is_in = "github.event.merge_group.base_sha"
+        self.assert_red(self.checked(self.attack))
+        self.assertEqual(self.checked(lambda top: put(top / "src/rows.py", "# more\n" + OLD)).status, 0)
 
     def test_a_change_that_brings_nothing(self) -> None:
         came = self.checked(lambda top: put(top / "src/other.py", "# more\n\n" + OLD.replace("re.compile", "print")))

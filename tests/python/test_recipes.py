@@ -149,7 +149,8 @@ class Action(Scratch):
         return file.read_text() if file.exists() else ""
 
     def test_defaults(self) -> None:
-        expected = {"paths": "", "arguments": "--tracked", "sarif": "", "base": "${{ github.event.pull_request.base.sha }}"}
+        base = "${{ github.event.pull_request.base.sha || github.event.merge_group.base_sha }}"
+        expected = {"paths": "", "arguments": "--tracked", "sarif": "", "base": base}
         self.assertEqual((len(self.runs), self.defaults), (1, expected))
         self.set_up("shown\n", [1])
         ran = self.step()
@@ -192,8 +193,23 @@ class Files(unittest.TestCase):
         self.assertIn("--locked --tracked", gitlab)
         self.assertIn("steps.check.outputs.written == 'true'", (TOP / "action.yml").read_text())
 
+    def test_the_example_for_github_is_what_the_page_says(self) -> None:
+        page = (TOP / "docs/CI.md").read_text().partition("- **GitHub**")[2].partition("- **GitLab**")[0]
+        example = (TOP / "examples/ci/github.yml").read_text()
+        action = (TOP / "action.yml").read_text()
+        events = re.findall(r"\w+", re.findall(r"^on: \[(.*)\]$", example, re.M)[0])
+        self.assertEqual(events, ["push", "pull_request", "merge_group"])
+        for event in events[1:]:
+            self.assertIn(f"github.event.{event}.base", action)
+        job = re.findall(r"^jobs:\n  ([\w-]+):$", example, re.M)[0]
+        self.assertTrue("`merge_group`" in page and f"tick the check `{job}`" in page)
+        inputs = re.findall(r"^  (\w+):$", action.partition("inputs:\n")[2].partition("\nruns:")[0], re.M)
+        self.assertEqual([it for it in inputs if f"`{it}`" not in page], [])
+        given = re.findall(r"^          ([\w-]+):", example, re.M)
+        self.assertLessEqual(set(given), set(inputs))
+
     def test_no_page_runs_a_module_of_the_current_folder(self) -> None:
-        pages = [*TOP.glob("*.md"), *TOP.glob("docs/*.md"), *TOP.glob("examples/**/*"), *TOP.glob("editors/**/*")]
+        pages = [*TOP.glob("*.md"), *TOP.glob("docs/*.md"), *TOP.glob("examples/**/*")]
         for path in (it for it in pages if it.is_file() and it.name != "SECURITY.md"):
             self.assertNotRegex(path.read_text(encoding="utf-8", errors="replace"), r"python3? -m relint", path)
 

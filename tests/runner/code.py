@@ -21,7 +21,7 @@ _SECONDS = 7200
 _SUMMARY = re.compile(r"^Ran ([0-9]+) tests? in", re.MULTILINE)
 _SKIPPED = re.compile(r"^(?:OK|FAILED) \(.*skipped=([0-9]+)", re.MULTILINE)
 # where the Python code is that is checked
-_FOLDERS = ("bench", "editors", "examples", "fuzz", "packaging", "python", "tests", "tools")
+_FOLDERS = ("bench", "examples", "fuzz", "packaging", "python", "tests", "tools")
 
 
 def python_files(folder: str) -> List[Path]:

@@ -45,13 +45,11 @@ class Elf:
         return self._header()[0] == 3
 
     def segments(self) -> List[Segment]:
-        """All program headers."""
         _, _, _, _, start, _, _, _, size, count, _, _, _ = self._header()
         rows = [struct.unpack_from("<IIQQQQQQ", self.content, start + at * size) for at in range(count)]
         return [Segment(row[0], row[1], row[2], row[5]) for row in rows]
 
     def of_kind(self, kind: int) -> List[Segment]:
-        """The program headers of a kind."""
         return [it for it in self.segments() if it.kind == kind]
 
     def dynamic(self) -> Dict[int, int]:

@@ -1,10 +1,10 @@
-"""The part `examples`: the report on `examples/app.py`, and the scripts of `examples/ci` in scratch folders."""
+"""The part `examples`: `examples/compare`, the syntax of each script, and the hook of `examples/ci` in scratch folders."""
 from __future__ import annotations
 
 import re
 import shutil
 import tempfile
-from dataclasses import dataclass, field
+from dataclasses import dataclass
 from functools import partial
 from pathlib import Path
 from typing import Callable, Dict, List, Tuple
@@ -15,53 +15,6 @@ from runner.results import Failed, Result
 
 FINDING = 'import re\nre.compile(r"(\\w+\\s?)*$")\n'
 GOOD = 'import re\nre.match(r"[a-z]+x", s)\n'
-REFUSED = 'import re\nre.search(r"(\\w)\\1", s)\n'
-
-
-@dataclass(frozen=True)
-class Call:
-    """A call of a script over files, and what has to come of it."""
-
-    script: str
-    what: str
-    words: List[str]
-    files: Dict[str, str]
-    statuses: List[int]
-    shows: List[str] = field(default_factory=list)
-    hides: List[str] = field(default_factory=list)
-
-
-CALLS = [
-    Call("check.sh", "a good file", ["src"], {"src/good.py": GOOD}, [0]),
-    Call("check.sh", "a finding", ["src"], {"src/bad one.py": FINDING}, [1], ["src/bad one.py:2:12"]),
-    Call("check.sh", "a file that isn't there", ["none.py", "good.py"], {"good.py": GOOD}, [3], ["none.py: unreadable"]),
-    Call("strict.sh", "a good file", ["src"], {"src/good.py": GOOD}, [0]),
-    Call("strict.sh", "a finding", ["src"], {"src/bad.py": FINDING, "src/good.py": GOOD}, [1], ["src/bad.py:2:12"],
-         ["good.py"]),
-    Call("strict.sh", "a pattern that is refused", ["src"], {"src/other.py": REFUSED}, [1], ["src/other.py:2:11"]),
-    Call("strict.sh", "a file that isn't there", ["none.py"], {}, [1, 3], ["none.py"]),
-]
-
-
-@dataclass(frozen=True)
-class Tracked:
-    """A repository, what is done to its work tree, and what `tracked.sh` has to answer there."""
-
-    what: str
-    files: Dict[str, str]
-    status: int
-    after: str = ""
-    shows: str = ""
-
-
-TRACKED = [
-    Tracked("a good file", {"good.py": GOOD}, 0),
-    Tracked("a finding", {"src/bad one.py": FINDING, "good.py": GOOD}, 1, "", "src/bad one.py:2:12"),
-    Tracked("a finding that git doesn't track", {"good.py": GOOD}, 0, "printf 'import re\nre.compile(\"(a|a)*b\")\n' >bad.py"),
-    Tracked("no Python file", {"notes.txt": "notes\n"}, 0),
-    Tracked("a file that is deleted", {"bad.py": FINDING, "good.py": GOOD}, 0, "rm bad.py"),
-    Tracked("a link", {"bad.txt": FINDING, "good.py": GOOD}, 0, "ln -s bad.txt link.py; git add link.py"),
-]
 
 
 @dataclass(frozen=True)
@@ -103,7 +56,6 @@ class _Place:
         return self.copy / "examples" / "ci" / name
 
     def project(self, files: Dict[str, str]) -> Path:
-        """A new folder with these files."""
         project = Path(tempfile.mkdtemp(dir=str(self.folder)))
         for path, text in files.items():
             place = project / path
@@ -125,34 +77,6 @@ def _read(place: _Place, path: Path) -> None:
     answer = place.run([_shell_of(place.copy / path), "-n", str(place.copy / path)], place.folder)
     if answer.status != 0:
         raise Failed("the shell doesn't read it: " + answer.stdout)
-
-
-def _call(place: _Place, call: Call) -> None:
-    project = place.project(call.files)
-    answer = place.run([str(place.script(call.script))] + call.words, project)
-    if answer.status not in call.statuses:
-        raise Failed("the status is %d: %s" % (answer.status, answer.stdout))
-    for text in call.shows:
-        if text not in answer.stdout:
-            raise Failed("%r isn't shown: %s" % (text, answer.stdout))
-    for text in call.hides:
-        if text in answer.stdout:
-            raise Failed("%r is shown: %s" % (text, answer.stdout))
-    left = {str(path.relative_to(project)) for path in project.rglob("*") if path.is_file()} - set(call.files)
-    if left:
-        raise Failed("it leaves files behind: " + ", ".join(sorted(left)))
-
-
-def _tracked(place: _Place, tracked: Tracked) -> None:
-    """Commits the files, changes the work tree as said, and compares what `tracked.sh` answers. Raises Failed."""
-    project = place.project(tracked.files)
-    scratch.commit_all(project, place.environment)
-    place.run(["sh", "-c", tracked.after], project)
-    answer = place.run([str(place.script("tracked.sh"))], project)
-    if answer.status != tracked.status:
-        raise Failed("the status is %d: %s" % (answer.status, answer.stdout))
-    if tracked.shows not in answer.stdout:
-        raise Failed("%r isn't shown: %s" % (tracked.shows, answer.stdout))
 
 
 def _commit(place: _Place, commit: Commit) -> None:
@@ -181,22 +105,16 @@ def _shell_of(path: Path) -> str:
 
 
 def tests_of(place: _Place) -> List[Tuple[str, Callable[[], None]]]:
-    """Each test with its name; those of scripts that aren't there are left out."""
     tests: List[Tuple[str, Callable[[], None]]] = [("examples/compare", partial(_compare, place))]
     for path in scratch.files_of_tree():
         if path.parts[0] == "examples" and _shell_of(place.copy / path):
             tests.append((str(path), partial(_read, place, path)))
-    for call in CALLS:
-        tests.append(("examples/ci/%s, %s" % (call.script, call.what), partial(_call, place, call)))
-    for tracked in TRACKED:
-        tests.append(("examples/ci/tracked.sh, " + tracked.what, partial(_tracked, place, tracked)))
     for commit in COMMITS:
         tests.append(("examples/ci/pre-commit, " + commit.what, partial(_commit, place, commit)))
-    return [(name, test) for name, test in tests if (place.copy / name.split(",")[0]).exists()]
+    return tests
 
 
 def run(program: Program) -> Result:
-    """Runs the examples."""
     result = Result()
     with tempfile.TemporaryDirectory() as folder:
         for name, test in tests_of(_Place(Path(folder), program)):

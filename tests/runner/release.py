@@ -45,7 +45,6 @@ class Released:
 
     @property
     def path(self) -> Path:
-        """Its file."""
         return TREE / "release" / self.machine / self.name
 
     def said(self, key: str) -> str:

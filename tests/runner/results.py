@@ -30,7 +30,6 @@ class Result:
     skips: List[Note] = field(default_factory=list)
 
     def fail(self, test: str, reason: str) -> None:
-        """Adds a test that failed."""
         self.failures.append(Note(test, reason))
 
     def skip(self, test: str, reason: str) -> None:

@@ -1,4 +1,4 @@
-"""The part `versions`: the version number is the same wherever it stands, and the man page is well formed."""
+"""The part `versions`: the version number is the same everywhere; the man page and the pictures are of this tree."""
 from __future__ import annotations
 
 import re
@@ -72,17 +72,18 @@ def _man_page(path: Path) -> None:
         raise Failed("the man page isn't well formed: " + answer.stdout)
 
 
-def _is_made_from_the_page() -> None:
-    answer = run_command([str(TREE / "tools" / "manpage"), "--check"], TREE, together=True)
+def _is_of_this_tree(tool: str) -> None:
+    answer = run_command([str(TREE / "tools" / tool), "--check"], TREE, together=True)
     if answer.status != 0:
         raise Failed(answer.stdout)
 
 
 def run(program: Program) -> Result:
-    """Compares the version numbers, and has the man pages read."""
+    """Compares the version numbers, has the man pages read, and compares what is made from other files."""
     result = Result()
     _agreement(result)
-    result.take("docs/relint.1 is made from docs/RELINT.md", _is_made_from_the_page)
+    result.take("docs/relint.1 is made from docs/RELINT.md", partial(_is_of_this_tree, "manpage"))
+    result.take("the pictures of docs/ARCHITECTURE.md are of this tree", partial(_is_of_this_tree, "pictures"))
     for path in man_pages():
         result.take(str(path), partial(_man_page, path))
     return result

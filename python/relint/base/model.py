@@ -58,7 +58,6 @@ class Family:
         return joined
 
     def length(self, k: int) -> int:
-        """Returns the length of text k."""
         return sum(map(len, self.heads)) + k * sum(map(len, self.pumps))
 
 
@@ -359,6 +358,15 @@ class Finding:
         """Returns whether the entry has a verdict that leaves open if it is a finding."""
         verdict = self.verdict
         return verdict is not None and verdict.is_open(max_degree)
+
+    def fails_strictly(self, max_degree: int) -> bool:
+        """Returns whether the entry fails with --strict only: its pattern isn't decided or judged, and nobody accepted it."""
+        is_pattern = self.entry.call is not None
+        return is_pattern and self.state == OTHER and (self.verdict is None or self.is_open(max_degree))
+
+    def rank(self) -> int:
+        """Returns a number by which worse findings are greater; -1 if the class isn't known."""
+        return self.verdict.rank() if self.verdict is not None else -1
 
 
 @dataclass(frozen=True)

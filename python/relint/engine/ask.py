@@ -106,7 +106,6 @@ class Services:
     """
 
     def __init__(self, jobs: int, seconds: float, deadline: float = float("inf"), in_flight: int = IN_FLIGHT) -> None:
-        """Takes the limits."""
         self.jobs, self.seconds, self.deadline, self.in_flight = max(1, jobs), seconds, deadline, in_flight
         self.late = False
         self._services: List[Service] = []

@@ -271,7 +271,6 @@ class _Reader:
                     raise
 
     def report(self) -> None:
-        """Reads the whole report."""
         self.need("{")
         seen: Set[str] = set()
         while True:
@@ -296,7 +295,6 @@ class _Reader:
             raise ReportError("this JSON is no report of relint check --format json, or of rlt")
 
     def list(self) -> None:
-        """Reads the list of entries."""
         self.need("[")
         if self.token("]"):
             return
@@ -311,7 +309,6 @@ class _Reader:
                 return
 
     def entry(self) -> None:
-        """Reads an entry."""
         try:
             self.entries.append(read_entry(self.value()))
         except ReportError as error:
@@ -364,7 +361,6 @@ class _Judge:
     """Runs the program over shares of files, and cuts the shares that take too long."""
 
     def __init__(self, options: Options, deadline: float, progress: Optional[Progress]) -> None:
-        """Takes what `judge` takes."""
         self.progress, self.max_degree = progress, options.max_degree
         self.done = self.every = self.findings = 0
         self.words = [located("relint"), "check", "--format", "json", "--report", "2", f"--mode={options.mode}",

@@ -163,7 +163,6 @@ def lines(findings: Sequence[Finding], summary: Summary, options: Options) -> It
 
 
 def _lines(findings: Sequence[Finding], summary: Summary, options: Options) -> Iterator[str]:
-    """The lines of the page."""
     style, script = _own("page.css"), _own("page.js")
     policy = "; ".join(("default-src 'none'", f"style-src {_pinned(style)}", f"script-src {_pinned(script)}",
                         "base-uri 'none'", "form-action 'none'"))

@@ -22,7 +22,7 @@ from ..base.words import (
 from ..options import Options
 from ..stages.accept import key_of
 from .terminal import (
-    CTRL_C, accepts, class_of, drawn, facts, is_open, is_shown, line_starts, other_words, others, result, rows, why_words,
+    CTRL_C, accepts, class_of, drawn, facts, is_shown, line_starts, other_words, others, result, rows, why_words,
     worst_first,
 )
 
@@ -101,7 +101,8 @@ def github(findings: Sequence[Finding], summary: Summary, options: Options) -> I
     for it in summary.clock.within(worst_first(findings)):
         yield annotation("error" if it.state == NEW else "warning", it, _message(it, summary))
     for it in summary.clock.within(others(findings, options)):
-        yield annotation("error" if options.strict and is_open(it, options) else "notice", it, other_words(it))
+        fails = options.strict and it.fails_strictly(options.max_degree)
+        yield annotation("error" if fails else "notice", it, other_words(it))
     for lost in summary.clock.within([it for it in summary.not_looked if it.fails or options.strict]):
         at = [("file", lost.path), ("title", f"{NAME} RLT203")]
         yield command("error", at, f"not looked at: {CAUSES.get(lost.why, lost.why)}")
@@ -164,7 +165,8 @@ def _issue(rule: str, words: str, print_of_it: str, place: Tuple[str, int]) -> D
 
 def sarif(findings: Sequence[Finding], summary: Summary, options: Options) -> Iterator[str]:
     """Yields the report in SARIF 2.1.0, on one line: findings, also accepted and ignored ones, and what isn't judged."""
-    shown = [it for it in findings if is_shown(it) or it.state in (ACCEPTED, IGNORED, KNOWN) or is_open(it, options)]
+    shown = [it for it in findings if is_shown(it) or it.state in (ACCEPTED, IGNORED, KNOWN)
+             or it.fails_strictly(options.max_degree)]
     codes = sorted({rule_of(it) for it in shown})
     first = {rule_of(it): it for it in reversed(shown)}
     results = [{**_result(it, summary, options, codes.index(rule_of(it))), "partialFingerprints": {PRINTS: mark}}

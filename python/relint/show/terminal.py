@@ -351,23 +351,16 @@ def is_shown(finding: Finding) -> bool:
     return finding.state in (NEW, WARNED)
 
 
-def is_open(finding: Finding, options: Options) -> bool:
-    """Returns whether an entry fails with --strict: it isn't decided or judged, and nobody accepted it."""
-    # (an entry of a whole file is in `not_looked`)
-    is_pattern = finding.entry.call is not None
-    return is_pattern and finding.state == OTHER and (finding.verdict is None or finding.is_open(options.max_degree))
-
-
 def others(findings: Sequence[Finding], options: Options) -> List[Finding]:
     """Returns the entries that aren't findings and are named: with --all every one, with --strict those that fail."""
     if options.all:
         return [it for it in findings if not is_shown(it)]
-    return [it for it in findings if is_open(it, options)] if options.strict else []
+    return [it for it in findings if it.fails_strictly(options.max_degree)] if options.strict else []
 
 
 def worst_first(findings: Sequence[Finding]) -> List[Finding]:
     """Returns the findings among the entries, the worst first, and of equal ones the first."""
-    return sorted(filter(is_shown, findings), key=lambda it: -it.verdict.rank() if it.verdict else 0)
+    return sorted(filter(is_shown, findings), key=lambda it: -it.rank())
 
 
 # ---- the last lines
@@ -409,7 +402,7 @@ def facts(findings: Sequence[Finding], summary: Summary, options: Options) -> Li
     lines += [visible(it) for it in dict.fromkeys((*options.notes, *summary.notes))]
     if options.strict or options.all:
         lines += [f"{visible(path)}:{number}: this noqa comment hides nothing" for path, number in summary.unused_ignores]
-    fails = summary.not_looked or summary.unused_ignores or any(is_open(it, options) for it in findings)
+    fails = summary.not_looked or summary.unused_ignores or any(it.fails_strictly(options.max_degree) for it in findings)
     if options.strict and fails:
         lines.append("with --strict, what isn't judged or looked at fails too")
     if summary.late:
@@ -447,7 +440,7 @@ def _not_judged(findings: Sequence[Finding], options: Options) -> List[str]:
     """The line that counts what isn't decided or judged, by causes."""
     found: Dict[str, int] = {}
     for it in findings:
-        if is_open(it, options):
+        if it.fails_strictly(options.max_degree):
             name = it.verdict.limit or "" if it.verdict is not None else it.entry.cause or it.entry.kind
             found[name] = found.get(name, 0) + 1
     total = sum(found.values())

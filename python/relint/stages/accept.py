@@ -38,7 +38,6 @@ class AcceptError(Exception):
     """Raised if the accepted file can't be used; the message says why, and `status` is the exit status."""
 
     def __init__(self, message: str, status: int = 2) -> None:
-        """Takes the message and the exit status."""
         super().__init__(message)
         self.status = status
 
@@ -90,7 +89,6 @@ class Accepted:
         return os.path.dirname(self.file) or "."
 
     def text(self) -> str:
-        """Returns the text of the file."""
         lines = ",\n".join(it.text() for it in sorted(self.rows))
         return f'{{"version": {VERSION}, "accepted": [' + (f"\n{lines}\n" if lines else "") + "]}\n"
 

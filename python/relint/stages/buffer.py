@@ -54,7 +54,6 @@ class _Reader(FolderReader):
     """Reads files below some folders, but in place of one of them gives the text that is open."""
 
     def __init__(self, chosen: Chosen) -> None:
-        """Takes the files of a run over one text."""
         super().__init__(chosen.folders)
         self._path, self._data = chosen.files[0], chosen.data or b""
 
@@ -67,7 +66,6 @@ class _Worker(Worker):
     """A worker for which the open text stands in place of its file."""
 
     def __init__(self, chosen: Chosen) -> None:
-        """Takes the files of a run over one text."""
         super().__init__(chosen.folders)
         self._reader = _Reader(chosen)
 

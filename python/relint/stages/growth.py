@@ -140,7 +140,7 @@ def grown(findings: Sequence[Finding], run: Run) -> List[Finding]:
 def _worst_first(findings: Sequence[Finding]) -> List[int]:
     """The numbers of the findings that are shown and whose class has texts, the worst first."""
     shown = [at for at, it in enumerate(findings) if it.state in (NEW, WARNED) and family_of(it) is not None]
-    return sorted(shown, key=lambda at: -_rank(findings[at]))
+    return sorted(shown, key=lambda at: -findings[at].rank())
 
 
 def family_of(finding: Finding) -> Optional[Family]:
@@ -221,11 +221,6 @@ def explained(findings: Sequence[Finding], run: Run) -> List[Finding]:
     for at, answer in zip(wanted, run.asker.ask_all(asked)):
         found[at] = replace(found[at], why=why_of(answer))
     return found
-
-
-def _rank(finding: Finding) -> int:
-    """How bad a finding is."""
-    return finding.verdict.rank() if finding.verdict else -1
 
 
 def why_of(answer: Mapping[str, Any]) -> Optional[Why]:

@@ -44,9 +44,7 @@ def known(findings: Sequence[Finding], run: Run, judging: Judging, endings: Tupl
 
 def _counts(finding: Finding, run: Run) -> bool:
     """Whether a finding would make the run fail or be shown."""
-    is_open = finding.verdict is None or finding.is_open(run.options.max_degree)
-    is_strict = run.options.strict and finding.state == OTHER and finding.entry.call is not None and is_open
-    return finding.state in (NEW, WARNED) or is_strict
+    return finding.state in (NEW, WARNED) or run.options.strict and finding.fails_strictly(run.options.max_degree)
 
 
 def with_brought(every: Sequence[NotLooked], run: Run) -> List[NotLooked]:
@@ -101,7 +99,6 @@ class _Earlier:
     """The files of the earlier commit, and the findings in them."""
 
     def __init__(self, findings: Sequence[Finding], run: Run, judging: Judging, endings: Tuple[str, ...]) -> None:
-        """Takes what `known` takes."""
         assert run.earlier is not None
         self.findings, self.run, self.judging, self.endings = list(findings), run, judging, endings
         self.commit = run.earlier

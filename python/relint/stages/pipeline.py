@@ -28,6 +28,8 @@ from .worker import Worker
 PART_OF_THE_TIME = 0.85
 # The part of that in which reports are read.
 PART_OF_READING = 0.4
+# One worker is forked at once for so many files.
+FILES_OF_A_WORKER = 32
 # Fixes are looked for until all processors have taken so many seconds.
 SECONDS_OF_FIXES = 10.0
 REPORTED = (".py", ".pyi", ".ipynb")
@@ -54,14 +56,9 @@ def status_of(findings: Sequence[Finding], summary: Summary, options: Options) -
         return 3
     if any(it.state == NEW for it in findings):
         return 1
-    is_unclear = summary.not_looked or summary.unused_ignores or any(fails_strictly(it, options) for it in findings)
+    is_unclear = summary.not_looked or summary.unused_ignores or any(
+        it.fails_strictly(options.max_degree) for it in findings)
     return 1 if options.strict and is_unclear else 0
-
-
-def fails_strictly(finding: Finding, options: Options) -> bool:
-    """Returns whether an entry makes the run fail with --strict only: it isn't decided or judged, and nobody accepted it."""
-    is_pattern = finding.entry.call is not None
-    return is_pattern and finding.state == OTHER and (finding.verdict is None or finding.is_open(options.max_degree))
 
 
 @contextmanager
@@ -75,7 +72,8 @@ def opened(options: Options, progress: Optional[Progress] = None) -> Iterator[Ru
     with ExitStack() as stack:
         scratch = stack.enter_context(Scratch()) if earlier is not None else ""
         folders = (*chosen.folders, scratch) if scratch else chosen.folders
-        pool = stack.enter_context(Pool(options.jobs, Worker(folders).work, deadline))
+        early = 1 + len(chosen.files) // FILES_OF_A_WORKER
+        pool = stack.enter_context(Pool(options.jobs, Worker(folders).work, deadline, early))
         made = Run(options, chosen, pool, asker, deadline, begun, earlier, scratch, progress, rate.kept())
         for it in (asker.close, made.close, *([earlier.close] if earlier is not None else [])):
             stack.callback(it)
@@ -410,7 +408,7 @@ def mended(findings: List[Finding], run: Run) -> List[Finding]:
     offers = importlib.import_module("..mend.offers", __package__)
     is_fix = run.options.word == "fix"
     limited = replace(run, deadline=run.deadline if is_fix else min(run.deadline, time.monotonic() + SECONDS_OF_FIXES))
-    wanted = sorted(order, key=lambda it: -_rank(findings[it]))[:None if is_fix else run.options.most]
+    wanted = sorted(order, key=lambda it: -findings[it].rank())[:None if is_fix else run.options.most]
     try:
         for number, at in enumerate(wanted):
             if time.monotonic() >= limited.deadline:
@@ -421,8 +419,3 @@ def mended(findings: List[Finding], run: Run) -> List[Finding]:
     finally:
         offers.close()
     return findings
-
-
-def _rank(finding: Finding) -> int:
-    """How bad a finding is."""
-    return finding.verdict.rank() if finding.verdict is not None else -1

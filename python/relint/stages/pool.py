@@ -22,7 +22,7 @@ from typing import Any, Callable, Deque, Dict, Iterator, List, NoReturn, Optiona
 SECONDS, MEMORY, LARGEST_ANSWER = 20.0, 2 << 30, 64 << 20
 # A piece is also ended after PATIENCE times its seconds by the clock.
 PATIENCE = 20
-# How many workers are forked at once; the others follow if there is work for them.
+# How many workers are forked at once at most; the others follow if there is work for them.
 EARLY = 4
 READ_AT_A_TIME = 1 << 18
 # A free worker takes a piece that waits for another one, which has its tree, only if so many wait there.
@@ -83,8 +83,8 @@ class _Worker:
 class Pool:
     """Workers that all run the same function. To be used in a `with` statement, which ends them."""
 
-    def __init__(self, jobs: int, work: Callable[[Any], Any], deadline: Optional[float] = None) -> None:
-        """Forks the first of at most `jobs` workers, which run `work`; raises OSError if none can be forked.
+    def __init__(self, jobs: int, work: Callable[[Any], Any], deadline: Optional[float] = None, early: int = EARLY) -> None:
+        """Forks the first `early` of at most `jobs` workers, which run `work`; raises OSError if none can be forked.
 
         After `deadline`, as `time.monotonic` counts, nothing more is done.
         """
@@ -93,15 +93,13 @@ class Pool:
         self._homes: Dict[str, _Worker] = {}
         self._why: Dict[int, str] = {}
         self.late = False
-        for _ in range(min(self._jobs, EARLY)):
+        for _ in range(min(self._jobs, early, EARLY)):
             self._start()
 
     def __enter__(self) -> "Pool":
-        """Returns the pool itself."""
         return self
 
     def __exit__(self, *_: object) -> None:
-        """Ends the workers."""
         self.close()
 
     def close(self) -> None:

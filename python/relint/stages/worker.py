@@ -48,7 +48,6 @@ class Worker:
     """Reads files below some folders, keeps the trees of the last ones, and does pieces of work with them."""
 
     def __init__(self, folders: Sequence[str]) -> None:
-        """Takes the folders, or single files."""
         self._reader = FolderReader(folders)
         self._kept: Dict[str, Unit] = {}
         self._size = 0

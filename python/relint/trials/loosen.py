@@ -70,7 +70,6 @@ class _Writer:
         return "".join(self.item(str(it[0]), it[1], copied) for it in tree)
 
     def item(self, code: str, value: Any, copied: int) -> str:
-        """Returns an item as a pattern."""
         self.left -= 1
         if self.left < 0 or copied > MOST_COPIES:
             raise NotMade
@@ -100,7 +99,6 @@ class _Writer:
         return f"(?{marks}:{'|'.join(parts)})"
 
     def repeated(self, code: str, value: Any, copied: int) -> str:
-        """Returns a repeat as a pattern."""
         least, most, body = int(value[0]), int(value[1]), value[2]
         endless = most >= int(importlib.import_module(PARSER).MAXREPEAT)
         if self.few and least > FEW:

@@ -26,7 +26,6 @@ class Trials(Services):
         self._asked: Dict[str, Any] = {}
 
     def started(self) -> Service:
-        """Returns a new process."""
         environment = {name: value for name, value in os.environ.items() if not name.startswith("PYTHON")}
         return Service([sys.executable, "-I", "-B", "-S", SCRIPT], environment)
 
