@@ -30,7 +30,7 @@ GIVERS = ("getattr", "attrgetter", "globals", "vars", "locals", "eval", "exec", 
 WRITING = (b"setattr", b"delattr", b"vars", b"__dict__", b"getattr", b"attrgetter", b"getmembers", b"globals", b"locals",
            b"modules", b"patch", b"eval", b"type", b"new_class", b"make_dataclass")
 CONSTANT = re.compile(rb"etattr\s*\(\s*[\w.\[\]]+\s*,\s*[\"']\w+[\"']\s*[,)]")
-VARS, TYPE, DELETES = re.compile(rb"(?<![\w.])vars\b"), re.compile(rb"\btype[\s\\]*\("), re.compile(rb"\bdel\b")
+VARS, TYPE, DELETES = re.compile(rb"(?<![\w.])vars\b"), re.compile(rb"type[\s\\]*\("), re.compile(rb"\bdel\b")
 # The module from which an import statement takes names.
 FROM = re.compile(rb"\bfrom[ \t]+[\w.\x80-\xff]+[ \t]+(?=import\b)")
 # Up to so many names are looked for one by one; for more, the bytes are split into words, of which these are the letters.
