@@ -41,7 +41,7 @@ NO_WORD, GAP = rb"(?![0-9A-Za-z_\x80-\xff])", rb"(?:[\s\\]|#[^\n]*\n)*"
 NO_MODULE = re.compile(GAP + rb"[.(=]")
 BASE = re.compile(rb"([0-9A-Za-z_\x80-\xff]+)\.\Z")
 # From an import statement to its end, which parentheses and backslashes move to a later line.
-TO_THE_END = re.compile(rb"(?:[^\n\\(#]|\\\r?\n|\\(?!\r?\n)|\((?:[^()#]|#[^\n]*(?:\n|\Z))*(?:\)|(?=\()|\Z))*(?:#[^\n]*)?")
+TO_THE_END = re.compile(rb"(?:[^\n\\(#]+|\\\r?\n|\\(?!\r?\n)|\((?:[^()#]+|#[^\n]*(?:\n|\Z))*(?:\)|(?=\()|\Z))*(?:#[^\n]*)?")
 CODE_OR_NOT = re.compile(rb"\"\"\"(?:[^\"\\]|\\.|\"(?!\"\"))*\"\"\"|'''(?:[^'\\]|\\.|'(?!''))*'''|\"(?:[^\"\\\n]|\\.)*\""
                          rb"|'(?:[^'\\\n]|\\.)*'|(#[^\n]*)", re.S)
 CODING = re.compile(rb"^[ \t\f]*#.*?coding[:=][ \t]*([-\w.]+)")
@@ -92,7 +92,7 @@ def import_statements(data: bytes) -> List[bytes]:
     at = data.find(b"import")
     while at >= 0:
         start = data.rfind(b"\n", 0, at) + 1
-        while data[:start][-3:] == b"\\\r\n" or data[max(0, start - 2):start] == b"\\\n":
+        while data[max(0, start - 3):start] == b"\\\r\n" or data[max(0, start - 2):start] == b"\\\n":
             start = data.rfind(b"\n", 0, start - 1) + 1
         ending = TO_THE_END.match(data, at)
         end = max(at + 6, ending.end() if ending else 0)
@@ -136,7 +136,8 @@ def as_python_reads(data: bytes) -> Optional[bytes]:
 
     Returns b"" for a coding that Python doesn't know, and None for one in which bytes of ASCII may mean something else.
     """
-    found = [it.group(1).decode("latin-1") for it in map(CODING.match, data[:2000].splitlines()[:2]) if it]
+    lines = data[:2000].splitlines()[:2] if b"coding" in data[:2000] else []
+    found = [it.group(1).decode("latin-1") for it in map(CODING.match, lines) if it]
     kind = kind_of_coding(found[0]) if found else "utf-8"
     if kind in ("odd", ""):
         return b"" if not kind else None

@@ -16,7 +16,7 @@ from typing import Any, Callable, Dict, Iterator, List, Mapping, NamedTuple, Opt
 from ..base.model import CALLS, MODES, Holder, Place, Site, Text
 from ..options import OptionsError, read_toml
 from . import routes, texts
-from .elsewhere import LETTERS, WORDS, import_statements
+from .elsewhere import LETTERS, WORDS, import_statements, places
 from .fold import COMPILED, Bound, Class, Folder, Varies, bound
 from .names import Scope
 from .source import EVERY_FLAG, FLAGS, FLAGS_AT, LINE_END, Unit, is_test
@@ -39,6 +39,8 @@ WORDS_OF_KINDS: Mapping[Any, str] = {
 # (without a test of what stands before, the search is quick)
 OF_RE = re.compile(rb"re\s*\.\s*(?:" + "|".join(CALLS).encode() + rb")\b(?!\s*\(\s*(?:#[^\n]*\s*)*[rRbBuU]{0,2}[\"'])")
 IMPORTS_RE = re.compile(rb"\bfrom\s+(?:re|regex)\s+import\b|\bimport\b[^\n]*\b(?:re\s+as|regex)\b")
+# Parts that many names of takers have.
+COMMON = (b"egex", b"REGEX")
 # Names with the prefix of a rule that PLY doesn't read as rules.
 NO_RULES = ("t_ignore", "t_error", "t_eof", "t_literals")
 # Keys of a JSON schema whose value has schemas by names, and those whose value is no schema.
@@ -181,6 +183,20 @@ def taker_of(row: Any, place: str) -> Taker:
     )
 
 
+class Sign(NamedTuple):
+    """What a source has to have for a row to fit: a word, or only a part of one, and one of some others, if there are any."""
+
+    word: bytes
+    is_whole: bool
+    others: Tuple[bytes, ...]
+
+    def is_in(self, data: bytes) -> bool:
+        """Returns whether the bytes of a source have all that."""
+        if self.word not in data or self.others and not any(it in data for it in self.others):
+            return False
+        return not self.is_whole or any(True for _ in places(data, self.word))
+
+
 class Takers:
     """The table, by what calls and names have to be for a row to fit."""
 
@@ -189,24 +205,30 @@ class Takers:
         self.rows = [it for it in rows if wide or it.shape != "tokens"]
         self.calls: Dict[str, List[Taker]] = {}
         self.methods: Dict[str, List[Taker]] = {}
-        self.words: Dict[bytes, List[bytes]] = {}
+        self._signs: Dict[bytes, Dict[bytes, List[Sign]]] = {}
         self.last_names = {*CALLS, "partial", *(it.rpartition(".")[2] for row in self.rows for it in row.calls)}
         for row in self.rows:
             for name in row.calls:
                 self.calls.setdefault(name, []).append(row)
-                self._word(name.partition(".")[0], name.rpartition(".")[2])
+                self._sign(name.partition(".")[0], name.rpartition(".")[2], row)
             name = row.method.rpartition(".")[2]
             if name:
                 self.methods.setdefault(name, []).append(row)
                 # (a row for all methods needs its argument's name; what is a function of `re` is found by that)
                 for it in row.keywords if name == "*" else [name] if row.needs != "re" else []:
-                    self._word(row.needs, it.strip("*"))
+                    self._sign(row.needs, it, row)
             if row.attribute:
-                self._word(row.needs, row.beside[0] if row.beside else row.attribute.partition("*")[0])
+                self._sign(row.needs, row.beside[0] if row.beside else row.attribute, row)
 
-    def _word(self, module: str, word: str) -> None:
-        """Notes a word without which a row fits nothing in files that import a module; in all files for ""."""
-        self.words.setdefault(module.encode(), []).append(word.encode())
+    def _sign(self, module: str, word: str, row: Taker) -> None:
+        """Notes a word, perhaps with stars, without which a row fits nothing in files that import a module, or in all for "".
+
+        If the pattern is given only by a name, that has to be there too.
+        """
+        others = [it.strip("*").encode() for it in row.keywords] if row.pattern < 0 and not row.attribute else []
+        plain = word.strip("*").partition("*")[0].encode()
+        its = self._signs.setdefault(module.encode(), {}).setdefault(next((it for it in COMMON if it in plain), plain), [])
+        its += [it for it in [Sign(plain, "*" not in word, tuple(others))] if it not in its]
 
     def may_take(self, data: bytes) -> bool:
         """Returns whether the bytes of a source show that something in it may take a pattern that the program doesn't read."""
@@ -216,7 +238,8 @@ class Takers:
             return True
         if b"re" in words and any(data[it.start() - 1:it.start()] not in LETTERS for it in OF_RE.finditer(data)):
             return True
-        return any((not module or module in words) and any(it in data for it in names) for module, names in self.words.items())
+        return any(part in data and any(it.is_in(data) for it in its) for module, signs in self._signs.items()
+                   if not module or module in words for part, its in signs.items())
 
 
 # ---- places
@@ -225,7 +248,7 @@ def places_in(unit: Unit, takers: Takers, folder: Folder) -> List[Found]:
     """Returns what a source gives as patterns, known or not, in order; once for each value. Raises SourceError."""
     folder.begin()
     one = _Finder(unit, takers, folder)
-    found = [it for call in unit.scopes.calls for it in one.of_call(call)]
+    found = [it for call in unit.scopes.calls if one.may_take(call.func) for it in one.of_call(call)]
     found += [it for row in takers.rows if row.attribute and one.imports(row.needs) for it in one.of_attribute(row)]
     found += [it for row in takers.methods.get("*", ()) if any(it.strip("*") in unit.text for it in row.keywords)
               for call in unit.scopes.calls for it in one.of_row(row, call)]
@@ -254,13 +277,14 @@ class _Finder:
         name = call.func.attr if isinstance(call.func, ast.Attribute) else ""
         rows = [it for it in self.takers.methods.get(name, ())
                 if self.imports(it.needs) and self._is_method(call.func, it.method) and self._fits(it, call)]
-        longest = max((len(it.method) for it in rows), default=0)
-        for row in rows:
-            # ("str.replace" is another method than "replace")
-            yield from self.of_row(row, call) if len(row.method) == longest else ()
         if rows:
+            longest = max(len(it.method) for it in rows)
+            for row in rows:
+                # ("str.replace" is another method than "replace")
+                yield from self.of_row(row, call) if len(row.method) == longest else ()
             return
-        full = self.folder.qualified(call.func, self.unit) if self._may_take(call.func) else None
+        is_named = not isinstance(call.func, ast.Attribute) or name in self.takers.last_names
+        full = self.folder.qualified(call.func, self.unit) if is_named else None
         if full is None:
             if isinstance(call.func, ast.Name) and call.func.id == "map" and len(call.args) == 2:
                 yield from self.of_map(call)
@@ -314,13 +338,17 @@ class _Finder:
             return self._only_base(above[0], True, depth + 1)
         return self.folder.qualified(base, self.unit) or ""
 
-    def _may_take(self, node: ast.AST) -> bool:
-        """Whether a called expression may name a function that takes a pattern, by its last name or its bindings here."""
-        if not isinstance(node, ast.Name):
-            return last_name(node) in self.takers.last_names
-        bound_by: List[Any] = self.unit.scopes.meant(node)
-        return any(isinstance(it, ast.Name) or it.name.rpartition(".")[2] in self.takers.last_names for it in bound_by
-                   if isinstance(it, (ast.Name, ast.alias)))
+    def may_take(self, function: ast.AST) -> bool:
+        """Whether a called expression may name what takes a pattern, by its last name or its bindings here."""
+        takers = self.takers
+        if isinstance(function, ast.Attribute):
+            return function.attr in takers.last_names or function.attr in takers.methods or function.attr == "__init__"
+        if not isinstance(function, ast.Name):
+            return False
+        nodes = self.unit.scopes.meant(function)
+        return not nodes and function.id == "map" or any(
+            isinstance(it, (ast.Name, ast.ClassDef)) or isinstance(it, ast.alias) and (
+                it.name.rpartition(".")[2] in takers.last_names) for it in nodes)
 
     def _of_re(self, node: ast.AST) -> str:
         """The function of `re` that an expression names, or ""."""
@@ -610,8 +638,10 @@ class _Finder:
 
     def _of_body(self, row: Taker, scope: Scope) -> Iterator[Found]:
         """Yields the patterns that names of a scope hold, if they fit the row and are bound once."""
-        for name, nodes in scope.bindings.items():
-            if not fnmatch.fnmatchcase(name, row.attribute) or len(nodes) != 1 or name in NO_RULES:
+        is_plain = row.attribute.isidentifier()
+        for name in [row.attribute] if is_plain else fnmatch.filter(scope.bindings, row.attribute):
+            nodes = scope.bindings.get(name, [])
+            if len(nodes) != 1 or name in NO_RULES:
                 continue
             given = scope.bindings.get(row.flags_keyword, [])
             flags = bound(given[0], self.unit.scopes).value if len(given) == 1 else None

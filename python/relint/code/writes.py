@@ -9,7 +9,7 @@ import os
 import re
 from typing import Any, Dict, List, NamedTuple, Optional, Sequence, Set, Tuple
 
-from .elsewhere import BEHIND_DOT, LETTERS, as_python_reads, imported_words
+from .elsewhere import BEHIND_DOT, LETTERS, WORDS, as_python_reads, import_statements
 from .names import FUNCTIONS, Names
 from .source import SourceError, Unit
 from .texts import Need
@@ -26,14 +26,15 @@ OPEN = frozenset(("__dict__", "__subclasses__", "__bases__", "__mro__", "mro", "
 SETTERS = ("setattr", "delattr", "__setattr__", "__delattr__")
 WRITERS = (*SETTERS, "vars", "globals", "locals", "__dict__", "modules", "patch", "new_class", "make_dataclass")
 GIVERS = ("getattr", "attrgetter", "globals", "vars", "locals", "eval", "exec", "__dict__", "getmembers", "get_objects")
-# Words without which a file doesn't bind by a text at all, and without which it doesn't by a text that isn't in it.
-DYNAMIC = (b"setattr", b"delattr", b"vars", b"__dict__", b"type(")
-WRITING = (*DYNAMIC, b"getattr", b"attrgetter", b"getmembers", b"globals", b"locals", b"modules", b"patch", b"eval", b"type",
-           b"new_class", b"make_dataclass")
+# Words without which a file doesn't bind by a text at all.
+WRITING = (b"setattr", b"delattr", b"vars", b"__dict__", b"getattr", b"attrgetter", b"getmembers", b"globals", b"locals",
+           b"modules", b"patch", b"eval", b"type", b"new_class", b"make_dataclass")
 CONSTANT = re.compile(rb"etattr\s*\(\s*[\w.\[\]]+\s*,\s*[\"']\w+[\"']\s*[,)]")
-VARS = re.compile(rb"vars\s*\(")
+VARS, TYPE, DELETES = re.compile(rb"(?<![\w.])vars\b"), re.compile(rb"type[\s\\]*\("), re.compile(rb"\bdel\b")
+# The module from which an import statement takes names.
+FROM = re.compile(rb"\bfrom[ \t]+[\w.\x80-\xff]+[ \t]+(?=import\b)")
 # Up to so many names are looked for one by one; for more, the bytes are split into words, of which these are the letters.
-FEW = 12
+FEW = 40
 SPACED = bytes(it if bytes((it,)) in LETTERS else 32 for it in range(256))
 # What stands behind an attribute that may be bound: an assignment, a target, a loop, `with`, or the end of a line.
 STORED = r"\.\s*{}\s*(?:=(?!=)|[-+*/%&|^@]=|//=|\*\*=|<<=|>>=|[,)\]:]|\\|in\b|\n|\Z|#|;)"
@@ -257,6 +258,7 @@ class Changes:
                 self._by_name.setdefault(name.encode(), []).append(at)
             self._by_stem.setdefault(_stem(it.path), []).append(at)
         self._asked_of_imports = {name.encode() for it in needs if it.is_list or it.owner for name in (it.name, it.owner)}
+        self._are_of_classes = any(it.kind == "attribute" for it in needs)
         self._stored = {it.name: re.compile(STORED.format(re.escape(it.name)).encode()) for it in needs}
 
     def candidates(self, path: str, data: bytes) -> List[int]:
@@ -267,11 +269,16 @@ class Changes:
         data = read
         there = {it for it in self._by_name if it in data} if len(self._by_name) <= FEW else (
             self._by_name.keys() & set(data.translate(SPACED).split()))
-        is_dynamic = any(it in data for it in DYNAMIC) and _is_dynamic(data, b"s")
-        words = imported_words(data) if is_dynamic or any(it in self._asked_of_imports for it in there) else set()
+        is_dynamic = _is_dynamic(data, b"s")
+        makes = self._are_of_classes and TYPE.search(data) is not None
+        is_asked = is_dynamic or makes or any(it in self._asked_of_imports for it in there)
+        statements = b"\n".join(import_statements(data)) if is_asked else b""
+        words = set(WORDS.findall(statements))
         found: Set[int] = set()
-        for word in words & self._by_stem.keys() if is_dynamic else ():
-            found.update(self._by_stem[word])
+        for word in words & self._by_stem.keys() if is_dynamic or makes else ():
+            # (names of a module are bound by a text only where the module itself is imported)
+            is_module = is_dynamic and word in WORDS.findall(FROM.sub(b"", statements))
+            found.update(at for at in self._by_stem[word] if is_module or self.needs[at].kind == "attribute")
         for name in sorted(there):
             is_text = name + b'"' in data or name + b"'" in data
             is_attribute = _is_behind_dot(name, data)
@@ -289,7 +296,7 @@ class Changes:
             return is_attribute or name in words or gives
         if need.kind == "attribute" and not need.owner and b"class" in data:
             return True
-        return is_attribute and (b"del" in data or bool(self._stored[need.name].search(data)))
+        return is_attribute and bool(self._stored[need.name].search(data) or DELETES.search(data))
 
     def of(self, unit: Unit, candidates: Sequence[int]) -> List[int]:
         """Returns the numbers of those among the candidates that the file may bind or change."""
@@ -313,7 +320,7 @@ def _is_behind_dot(name: bytes, data: bytes) -> bool:
 
 def _is_dynamic(data: bytes, kind: bytes) -> bool:
     """Whether the bytes of a file show that it may get, or bind, attributes by names that aren't in it."""
-    if b"__dict__" in data or b"vars" in data and VARS.search(data) or kind == b"s" and b"type(" in data:
+    if b"__dict__" in data or b"vars" in data and VARS.search(data):
         return True
     if kind == b"s" and (b"delattr" in data or b"__setattr__" in data):
         return True
