@@ -11,7 +11,7 @@ static COUNTS: [u32; 3] = [1, 3, 65_536];
 
 /// Returns whether the first state has one move, which leads to the second.
 fn has_one(level: &Multigraph) -> bool {
-    level.states() == 2 && level.letters() == 1 && level.edges(0, 0) == &[1]
+    level.states() == 2 && level.letters() == 1 && level.edges(0, 0) == [1].as_slice()
 }
 
 /// Returns whether one of `count` moves is kept.
