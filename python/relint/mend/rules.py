@@ -13,9 +13,10 @@ from itertools import accumulate
 from typing import Callable, Iterator, List, NamedTuple, Optional, Sequence, Tuple
 
 from .nodes import (
-    CHARS, CHOICE, EMPTY, GROUP, GUARD, NO_BOUND, REPEAT, ROW, Alphabet, Node, again, at, chars, choice, group, guard, look,
-    made, optional, plus, positions, put, repeat, row, star, union, with_child,
+    CHARS, CHOICE, EMPTY, GROUP, GUARD, NO_BOUND, REPEAT, ROW, Alphabet, Node, again, chars, choice, group, guard, look, made,
+    optional, plus, positions, put, repeat, row, star, union, with_child,
 )
+from .nodes import at as node_at
 
 Path = Tuple[int, ...]
 MOST_SIGNS = 10
@@ -752,14 +753,15 @@ def stop_run(tree: Node, alphabet: Alphabet) -> Iterator[Node]:
     It proposes that for one run, for all of them, and for the first one's beginning alone.
     """
     runs, first = [it for it in endless_runs(tree) if not _is_ended(tree, it[0])], list(first_runs(tree))
-    for begun in range(len(first) + 1):
-        for some in [[], *([it] for it in runs), *([runs] if len(runs) > 1 else [])]:
-            new = tree
+    none: List[Tuple[Path, Node]] = []
+    for begun in (first[:count] for count in range(len(first) + 1)):
+        for ended in [none, *([it] for it in runs), *([runs] if len(runs) > 1 else [])]:
+            new, begins, ends = tree, {path for path, _ in begun}, {path for path, _ in ended}
             # (from right to left, since a new item moves those behind it)
-            for path, node in sorted({**dict(first[:begun]), **dict(some)}.items(), reverse=True):
-                front = [look(True, True, node.body.mask)] if path in dict(first[:begun]) else []
-                new = put(new, path, row([*front, node, *([look(False, True, node.body.mask)] if path in dict(some) else [])]))
-            yield from [new] if begun or some else []
+            for path, node in sorted({**dict(begun), **dict(ended)}.items(), reverse=True):
+                front = [look(True, True, node.body.mask)] if path in begins else []
+                new = put(new, path, row([*front, node, *([look(False, True, node.body.mask)] if path in ends else [])]))
+            yield from [new] if begun or ended else []
 
 
 def first_runs(tree: Node, path: Path = ()) -> Iterator[Tuple[Path, Node]]:
@@ -774,7 +776,7 @@ def first_runs(tree: Node, path: Path = ()) -> Iterator[Tuple[Path, Node]]:
 
 def _is_ended(tree: Node, path: Path) -> bool:
     """Whether a guard stands right behind the node at the end of a path."""
-    around = at(tree, path[:-1])
+    around = node_at(tree, path[:-1])
     return bool(path) and around.kind == ROW and any(it.kind == GUARD for it in around.items[path[-1] + 1:path[-1] + 2])
 
 
