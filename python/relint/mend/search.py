@@ -40,6 +40,7 @@ MORE_TRIES, MOST_EVEN, MOST_ADVICE = 10, 8, 4
 # A degree less is worth so many characters more, a new group as hard to read as so many, a new escape, brackets in brackets.
 DEGREE_WEIGHT, GROUP_WEIGHT, ESCAPE_WEIGHT, NESTED_WEIGHT = 8, 3, 2, 4
 OPENED, ESCAPED, NESTED = re.compile(r"\((?!\?<?[=!])"), re.compile(r"\\[A-Za-z]"), re.compile(r"\)[*+?}]+\)[*+?{]")
+GUARDS = re.compile(r"\(\?<!|\(\?m:\^\)|\\b")
 EXPONENTIAL, MISSED = 1_000_000, 9
 LONG_LOOK = "it finds the same, but relint can't judge a look-ahead of more than one character"
 
@@ -398,8 +399,9 @@ class Search:
         if "search" in methods:
             needs.append([asked("search"), *([] if position else [asked("one-search")])])
         if methods & REPEATED:
-            # (or else what is found first, and what is found behind a match)
-            later = [] if position else self.behind_a_match(new, groups)
+            # (or else what is found first, and what is found behind a match, which only a guard tells apart)
+            has_new = len(GUARDS.findall(as_text(new))) > len(GUARDS.findall(self.pattern.text))
+            later = self.behind_a_match(new, groups) if has_new and not position else []
             needs += [[asked("search"), *it] for it in ([[asked("one-search")], later] if later else [[]])]
         return needs
 
