@@ -8,7 +8,7 @@ from typing import Any, Dict, Iterator, List, Tuple, Union
 from engine_support import missing
 from relint.engine.ask import Asker
 from relint.mend import nodes
-from relint.mend.rules import RULES, WHOLE, Rule
+from relint.mend.rules import LOOKS, RULES, WHOLE, Rule
 from relint.mend.search import Sampler, distance, is_hard, read_pattern
 from relint.options import Options
 
@@ -16,7 +16,7 @@ NO_ASK = missing("relint-ask")
 ASKER = Asker(Options())
 # The examples that match other texts than their patterns: these rules lean on what stands around.
 LEANING = {"close", "cede", "disjoint", "exclude", "exclude-far", "fallback", "fill", "hoist", "with-blanks", "trim",
-           "stop-all", "after-last", "line-anchor", "end-own-far", "temper"}
+           "stop-all", "after-last", "line-anchor", "end-own-far", "temper", "stop-run", "stop-before"}
 
 
 def read(pattern: "str | bytes", flags: int = 0) -> nodes.Pattern:
@@ -24,7 +24,7 @@ def read(pattern: "str | bytes", flags: int = 0) -> nodes.Pattern:
 
 
 def proposed(rule: Rule, found: nodes.Pattern) -> Iterator[nodes.Node]:
-    places = [((), found.tree)] if rule in WHOLE else nodes.positions(found.tree)
+    places = [((), found.tree)] if rule in (*WHOLE, *LOOKS) else nodes.positions(found.tree)
     for path, node in places:
         for new in rule.rewrite(node, found.alphabet):
             yield nodes.put(found.tree, path, new)
@@ -174,7 +174,7 @@ class Trees(unittest.TestCase):
 @unittest.skipIf(NO_ASK, NO_ASK)
 class Rules(unittest.TestCase):
     def test_each_rule_gives_its_example(self) -> None:
-        for rule in (*RULES, *WHOLE):
+        for rule in (*RULES, *WHOLE, *LOOKS):
             with self.subTest(rule=rule.name):
                 pattern, wanted = rule.example
                 found = read(pattern)
@@ -182,16 +182,16 @@ class Rules(unittest.TestCase):
                 self.assertIn(wanted, texts)
 
     def test_names_are_their_own_and_groups_stay(self) -> None:
-        names = [it.name for it in (*RULES, *WHOLE)]
+        names = [it.name for it in (*RULES, *WHOLE, *LOOKS)]
         self.assertEqual(len(names), len(set(names)))
-        for rule in (*RULES, *WHOLE):
+        for rule in (*RULES, *WHOLE, *LOOKS):
             for pattern in (rule.example[0], "(?P<n>" + rule.example[0].replace("$", "") + ")x", r"(?:(\w+)(-)?)*(b+)?c"):
                 found = read(pattern)
                 for it in proposed(rule, found):
                     self.assertLessEqual(set(it.facts.groups), set(found.tree.facts.groups), (rule.name, pattern))
 
     def test_examples_match_the_same_texts(self) -> None:
-        for rule in (*RULES, *WHOLE):
+        for rule in (*RULES, *WHOLE, *LOOKS):
             if rule.name in LEANING:
                 continue
             with self.subTest(rule=rule.name):

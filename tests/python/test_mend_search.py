@@ -37,6 +37,10 @@ FIXED: List[Tuple[Text, How, Text]] = [
     (r"%(\w+).*;?\t(.*)!", ONE["search"], r"%(\w+).*;?\t([^\t\n]*)!"),
     (r"([\(,])\s*(\d.*?)\s*([,\)])", How(), r"([\(,])\s*(\d(?:.*?\S)??)\s*([,\)])"),
     ("(?x)^ ( [A-Z]+ )* # letters\n $", ONE["match"], "(?x)^ ( [A-Z]+ )? # letters\n $"),
+    (r"\S+\s\((\S+\s?\S+)\)", ONE["search"], r"\S+\s\(((?:\S+\s|\S)\S+)\)"),
+    (r"\s?(\d+)\s(\d+.\d+)%", ONE["search"], r"\s?((?<!\d)\d+)\s(\d+.\d+)%"),
+    (r"open (.*?)shut(.*?)lock", ONE["search"], r"open ((?:[^s\n]|s(?!h)|sh(?!u)|shu(?!t))*?)shut(.*?)lock"),
+    (r"open (.*)shut(.*)lock", ONE["search"], r"open (.*)shut((?:[^s\n]|s(?!h)|sh(?!u)|shu(?!t))*)lock"),
 ]
 
 
@@ -69,7 +73,10 @@ class Found(unittest.TestCase):
     def test_a_position_decides_between_fix_and_advice(self) -> None:
         pattern = r".*<b>(.*)</b>.*"
         self.assertEqual(found(pattern, ONE["search"])[0].pattern, r"(?m:^).*<b>(.*)</b>.*")
-        self.assertNotEqual(found(pattern, How(frozenset(["search"]), 0, True))[0].differs, "")
+        with WITHOUT_LOOKS:
+            self.assertNotEqual(found(pattern, How(frozenset(["search"]), 0, True))[0].differs, "")
+        wanted = r".*<b>((?:[^<\n]|<(?!b)|<b(?!>))*)</b>.*"
+        self.assertEqual(found(pattern, How(frozenset(["search"]), 0, True))[0].pattern, wanted)
 
     def test_a_run_before_a_word_stops_there(self) -> None:
         pattern = r"^a/(.+?)/locations/(.+?)/builds/(.+?)$"
@@ -117,6 +124,15 @@ class Found(unittest.TestCase):
     def test_a_run_that_a_look_ends(self) -> None:
         cures = found(r'"(\\.|[^"\\]+)*"', ONE["search"])
         self.assertEqual([(it.pattern, it.differs, it.is_proved) for it in cures], [(r'"(\\.|[^"\\]+(?![^"\\]))*"', "", True)])
+
+    def test_a_look_in_front_counts_behind_a_match_too(self) -> None:
+        # (a match of the second pattern ends with a blank, and the next one may begin with the next blank)
+        for pattern, is_fix in ((r"\s+(\d+)\s+(\d+)\s*x", True), (r"\s+(\d+)\s+(\d+)\s*x\s", False)):
+            for method, sees in (("findall", "groups"), ("sub", "spans")):
+                cures = found(pattern, replace(ONE[method], sees=sees))
+                fixes = [it.pattern for it in cures if not it.differs and not it.hard_to_read]
+                self.assertEqual(r"(?<!\s)" + pattern in fixes, is_fix, cures)
+            self.assertIn(r"(?<!\s)" + pattern, [it.pattern for it in found(pattern, ONE["search"])])
 
     def test_no_time_is_no_cure(self) -> None:
         self.assertEqual(found(r"^(\w+,?)*$", ONE["search"], -1.0), [])

@@ -199,6 +199,16 @@ def positions(node: Node, path: Tuple[int, ...] = ()) -> Iterator[Tuple[Tuple[in
         yield from positions(it, (*path, at))
 
 
+def ends(node: Node) -> int:
+    """Returns the mask of the letters with which a match of the node can end."""
+    found = node.mask if node.kind == CHARS else 0
+    for it in reversed(node.items):
+        found |= ends(it)
+        if node.kind == ROW and not it.facts.nullable:
+            break
+    return found
+
+
 # Letters
 
 MEMBER = re.compile(r"\\(?:x[0-9a-fA-F]{2}|u[0-9a-fA-F]{4}|U[0-9a-fA-F]{8}|[0-7]{1,3}|[\s\S])|[\s\S]")

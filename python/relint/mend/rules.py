@@ -13,9 +13,10 @@ from itertools import accumulate
 from typing import Callable, Iterator, List, NamedTuple, Optional, Sequence, Tuple
 
 from .nodes import (
-    CHARS, CHOICE, EMPTY, GROUP, NO_BOUND, REPEAT, ROW, Alphabet, Node, again, chars, choice, group, guard, made, optional,
-    plus, positions, put, repeat, row, star, union, with_child,
+    CHARS, CHOICE, EMPTY, GROUP, GUARD, NO_BOUND, REPEAT, ROW, Alphabet, Node, again, chars, choice, group, guard, look, made,
+    optional, plus, positions, put, repeat, row, star, union, with_child,
 )
+from .nodes import at as node_at
 
 Path = Tuple[int, ...]
 MOST_SIGNS = 10
@@ -243,6 +244,17 @@ def last_round(node: Node, alphabet: Alphabet) -> Iterator[Node]:
     yield from (as_often(node, row([star(it, node.greedy), node.body])) for it in bodies)
 
 
+def seam(node: Node, alphabet: Alphabet) -> Iterator[Node]:
+    """A loop whose body ends with a run and a character that the run may take: in all rounds but the last the run can't."""
+    body = stripped(node.body) if node.endless and node.least < 2 else EMPTY
+    parts = items_of(body)
+    run, sign = (run_of(parts[-2]), run_of(parts[-1])) if len(parts) > 2 else (None, None)
+    if run is None or sign is None or not run.endless or run.least > 1 or not run.mask & sign.mask or not run.mask & ~sign.mask:
+        return
+    own = with_run(parts[-2], run.least, run.most, run.mask & ~sign.mask)
+    yield as_often(node, row([star(row([*parts[:-2], own, parts[-1]]), node.greedy), node.body]))
+
+
 def fallback(node: Node, alphabet: Alphabet) -> Iterator[Node]:
     r"""A greedy loop over escapes and other characters, as `(?:\\.|[^"])*`: the escaping character alone only at the end.
 
@@ -375,6 +387,20 @@ def cede(node: Node, alphabet: Alphabet) -> Iterator[Node]:
         yield put_parts(node, at + 1, at + 2, with_edge(right, 0, new))
 
 
+def cede_line(node: Node, alphabet: Alphabet) -> Iterator[Node]:
+    """A run, the start of a line, a run, both with newlines: the second without newlines, or with one only at its end."""
+    newline = alphabet.newline
+    for at in range(len(node.items) - 2 if node.kind == ROW else 0):
+        last, mark, first = edge(node.items[at], -1), node.items[at + 1], edge(node.items[at + 2], 0)
+        if last is None or first is None or mark.name not in ("^", "(?m:^)") or not first.endless or first.least > 1:
+            continue
+        own = first.body.mask & ~newline
+        if own and own != first.body.mask and last.body.mask & newline:
+            rest = star(chars(own), first.greedy)
+            new = row([rest, first.body]) if first.least else rest
+            yield put_parts(node, at + 2, at + 3, with_edge(node.items[at + 2], 0, new))
+
+
 def end_own(node: Node, alphabet: Alphabet) -> Iterator[Node]:
     """An endless run before one that shares characters: it ends with a character of its own, or is as short as it may be."""
     for at, left, _, last, first in last_and_first(node):
@@ -458,10 +484,15 @@ def option_pair(node: Node, alphabet: Alphabet) -> Iterator[Node]:
         if one is None or other is None or part.kind != REPEAT or part.least:
             continue
         filled = again(part, part.body, least=1)
-        if not right.facts.groups and other.least == 0 and other.endless and other.mask & ~one.mask == 0:
-            yield put_parts(node, at + 1, at + 3, optional(row([filled, right])))
-        if not left.facts.groups and one.least == 0 and one.endless and one.mask & ~other.mask == 0:
-            yield put_parts(node, at, at + 2, optional(row([left, filled])))
+        if not right.facts.groups and other.least < 2 and other.endless and other.mask & ~one.mask == 0:
+            yield put_parts(node, at + 1, at + 3, _with_or_alone(row([filled, right]), other))
+        if not left.facts.groups and one.least < 2 and one.endless and one.mask & ~other.mask == 0:
+            yield put_parts(node, at, at + 2, _with_or_alone(row([left, filled]), one))
+
+
+def _with_or_alone(whole: Node, run: Run) -> Node:
+    """A part with a run beside it, or as few characters of the run as it needs."""
+    return choice([whole, chars(run.mask)]) if run.least else optional(whole)
 
 
 def with_blanks(node: Node, alphabet: Alphabet) -> Iterator[Node]:
@@ -644,13 +675,19 @@ def stop_all(tree: Node, alphabet: Alphabet) -> Iterator[Node]:
 
 def _behind(tree: Node, path: Path) -> int:
     """The mask of the single character that has to come right after the node at the end of a path; 0 if there is none."""
+    return (fixed(row(rest_of(tree, path))) or [0])[0]
+
+
+def rest_of(tree: Node, path: Path) -> List[Node]:
+    """Returns the parts that come after the node at the end of a path, as far as it stands in rows and groups alone."""
+    found: List[Node] = []
     nodes = list(accumulate(path, lambda node, at: node.items[at], initial=tree))
     for node, at in zip(nodes[-2::-1], reversed(path)):
-        if node.kind == ROW and at + 1 < len(node.items):
-            return (fixed(node.items[at + 1]) or [0])[0]
-        if node.kind not in (ROW, GROUP):
-            return 0
-    return 0
+        if node.kind == ROW:
+            found += node.items[at + 1:]
+        elif node.kind != GROUP:
+            break
+    return found
 
 
 def trim(tree: Node, alphabet: Alphabet) -> Iterator[Node]:
@@ -659,6 +696,88 @@ def trim(tree: Node, alphabet: Alphabet) -> Iterator[Node]:
         it = tree.items[at]
         if it.kind == REPEAT and it.least != it.most and not it.facts.groups:
             yield put_parts(tree, at, at + 1, again(it, it.body, most=it.least, greedy=True))
+
+
+def stop_before(tree: Node, alphabet: Alphabet) -> Iterator[Node]:
+    """An endless run before a word, or behind a word before which a greedy run stands: the run stops before the word.
+
+    That is spelled out by looks of one character. Where a beginning of the word is enough, the run stops before that.
+    """
+    runs = list(endless_runs(tree))
+    for at, (path, run) in enumerate(runs):
+        word = word_of(rest_of(tree, path))
+        for count in sorted({2, 3, len(word)} & set(range(2, len(word) + 1))):
+            for its_path, its in runs[at:at + 2] if run.greedy else [(path, run)]:
+                free = spelled(its.body.mask, word[:count]) if its.least < 2 else None
+                if free is not None:
+                    yield put(tree, its_path, again(its, free))
+                    if its.least:
+                        yield put(tree, its_path, row([its.body, star(free, its.greedy)]))
+
+
+def word_of(items: Sequence[Node]) -> List[int]:
+    """Returns the masks of the characters that come first in a row of parts, without what may be missing in front of them.
+
+    Of a run that has to be there they have one.
+    """
+    found: List[int] = []
+    for it in _flat(items):
+        run = run_of(it)
+        if run is None or not run.least:
+            if found or not it.facts.nullable:
+                break
+        else:
+            found += [run.mask] * min(run.least, 4)
+    return found
+
+
+def spelled(mask: int, word: Sequence[int]) -> Optional[Node]:
+    """Returns a character of a mask that begins no word, or as much of a word as is no word; None if its first one comes again.
+
+    The word is given by the mask of each of its characters.
+    """
+    first = word[0]
+    if first & ~mask or not mask & ~first or any(it & first for it in word[1:-1]):
+        return None
+    branches = [chars(mask & ~first)]
+    for at in range(1, len(word)):
+        if word[at - 1] & ~mask:
+            break
+        branches.append(row([*map(chars, word[:at]), look(False, True, word[at])]))
+    return choice(branches)
+
+
+def stop_run(tree: Node, alphabet: Alphabet) -> Iterator[Node]:
+    """An endless run: a look ends it where it can't go on, and if it is the first part, one begins it only where it can begin.
+
+    It proposes that for one run, for all of them, and for the first one's beginning alone.
+    """
+    runs, first = [it for it in endless_runs(tree) if not _is_ended(tree, it[0])], list(first_runs(tree))
+    none: List[Tuple[Path, Node]] = []
+    for begun in (first[:count] for count in range(len(first) + 1)):
+        for ended in [none, *([it] for it in runs), *([runs] if len(runs) > 1 else [])]:
+            new, begins, ends = tree, {path for path, _ in begun}, {path for path, _ in ended}
+            # (from right to left, since a new item moves those behind it)
+            for path, node in sorted({**dict(begun), **dict(ended)}.items(), reverse=True):
+                front = [look(True, True, node.body.mask)] if path in begins else []
+                new = put(new, path, row([*front, node, *([look(False, True, node.body.mask)] if path in ends else [])]))
+            yield from [new] if begun or ended else []
+
+
+def first_runs(tree: Node, path: Path = ()) -> Iterator[Tuple[Path, Node]]:
+    """Yields the endless runs with which a match can begin, after the path to them, as far as they stand in rows and groups."""
+    if tree.is_run and tree.endless:
+        yield path, tree
+    for at, it in enumerate(tree.items if tree.kind in (ROW, GROUP) else ()):
+        yield from first_runs(it, (*path, at))
+        if not it.facts.nullable or it.kind == GUARD:
+            break
+
+
+def _is_ended(tree: Node, path: Path) -> bool:
+    """Whether a guard stands right behind the node at the end of a path."""
+    around = node_at(tree, path[:-1])
+    return bool(path) and around.kind == ROW and any(it.kind == GUARD for it in around.items[path[-1] + 1:path[-1] + 2])
 
 
 def line_anchor(tree: Node, alphabet: Alphabet) -> Iterator[Node]:
@@ -672,8 +791,10 @@ def line_anchor(tree: Node, alphabet: Alphabet) -> Iterator[Node]:
 RULES: Tuple[Rule, ...] = (
     Rule("close", 0, close, (r"(a+)*", r"(a+)?")),
     Rule("glued", 0.5, glued, (r"(?:\s*\w+=\w+)*", r"(?:\s*\w+=\w+(?:(?:\s+\w+|\w)=\w+)*)?")),
+    Rule("seam", 0.6, seam, (r"(?:\s+\d\s*\n)+", r"(?:\s+\d[^\S\n]*\n)*\s+\d\s*\n")),
     Rule("drop-optional", 0.7, drop_optional, (r".*\r?\n", r".*\n")),
     Rule("cede", 0.8, cede, (r"\s+(.+)", r"\s+(\S.*|[^\S\n])")),
+    Rule("cede-line", 0.8, cede_line, (r"\s*(?m:^)\s*", r"\s*(?m:^)[^\S\n]*")),
     Rule("end-own", 0.8, end_own, (r"(.*?)\s*x", r"((?:.*?\S)??)\s*x")),
     Rule("option-pair", 1, option_pair, (r"\s*(a)?\s*b", r"\s*(?:(a)\s*)?b")),
     Rule("nest", 1, nest, (r"(?:a*)*", r"a*")),
@@ -702,4 +823,9 @@ WHOLE: Tuple[Rule, ...] = (
     Rule("line-anchor", 0.5, line_anchor, (r".*x", r"(?m:^).*x")),
     Rule("stop-all", 0.6, stop_all, (r"<.+?>.*?;", r"<.[^>\n]*?>[^;\n]*?;")),
     Rule("exclude-far", 4.2, exclude_far, (r"(.*);(.*)", r"([^;\n]*);(.*)")),
+)
+# The last resort, since what has a look isn't relint's to judge.
+LOOKS: Tuple[Rule, ...] = (
+    Rule("stop-before", 2, stop_before, (r"/\*.*?\*/", r"/\*(?:[^*\n]|\*(?!/))*?\*/")),
+    Rule("stop-run", 3, stop_run, (r"\s+(\d+)", r"(?<!\s)\s+(\d+)")),
 )

@@ -25,10 +25,10 @@ from ..trials.trial import GROUPS_TOO, OTHER, SPANS_TOO, TEXTS_ALONE
 from ..trials.tries import Trials
 from . import nodes
 from .nodes import (
-    CHARS, CHOICE, EMPTY, GUARD, REPEAT, ROW, Alphabet, Node, Pattern, Unreadable, again, chars, guard, look, made, positions,
+    CHARS, CHOICE, EMPTY, GUARD, REPEAT, ROW, Alphabet, Node, Pattern, Unreadable, again, chars, ends, guard, made, positions,
     put, row,
 )
-from .rules import RULES, WHOLE, Path, Rule, edge, endless_runs, signs, with_edge, word_free
+from .rules import LOOKS, RULES, WHOLE, Path, Rule, edge, endless_runs, signs, stripped, with_edge, word_free
 
 REPEATED = frozenset(("findall", "finditer", "split", "sub", "subn"))
 EVERY_METHOD = frozenset(("match", "search", "fullmatch")) | REPEATED
@@ -39,10 +39,10 @@ SIEVED, TRIED, LONGEST_TEXT, MOST_PARTS, MOST_MATCHED = 150, 1000, 80, 2000, 250
 MORE_TRIES, MOST_EVEN, MOST_ADVICE = 10, 8, 4
 # A degree less is worth so many characters more, a new group as hard to read as so many, a new escape, brackets in brackets.
 DEGREE_WEIGHT, GROUP_WEIGHT, ESCAPE_WEIGHT, NESTED_WEIGHT = 8, 3, 2, 4
-ESCAPED, NESTED = re.compile(r"\\[A-Za-z]"), re.compile(r"\)[*+?}]+\)[*+?{]")
+OPENED, ESCAPED, NESTED = re.compile(r"\((?!\?<?[=!])"), re.compile(r"\\[A-Za-z]"), re.compile(r"\)[*+?}]+\)[*+?{]")
+GUARDS = re.compile(r"\(\?<!|\(\?m:\^\)|\\b")
 EXPONENTIAL, MISSED = 1_000_000, 9
 LONG_LOOK = "it finds the same, but relint can't judge a look-ahead of more than one character"
-STOPPED = Rule("stop-run", 3.0, lambda node, alphabet: iter(()), ("", ""))
 
 
 @dataclass(frozen=True)
@@ -129,8 +129,8 @@ def distance(old: str, new: str) -> int:
 
 
 def new_groups(old: str, new: str) -> int:
-    """Returns how many parentheses a pattern has more."""
-    return max(0, new.count("(") - old.count("("))
+    """Returns how many parentheses a pattern has more; those of looks don't count."""
+    return max(0, len(OPENED.findall(new)) - len(OPENED.findall(old)))
 
 
 def is_hard(old: str, new: str) -> bool:
@@ -153,6 +153,7 @@ class Search:
         self.seen: Set[str] = set()
         self.best: Dict[str, Tuple[Tuple[int, ...], Cure]] = {}
         self.before: Worth = (0, 0, ())
+        self.whole = WHOLE
         self.pattern: Pattern
 
     def run(self, suggestion: Optional[Text] = None) -> List[Cure]:
@@ -238,7 +239,7 @@ class Search:
         """Returns what the rules propose for a tree, the cheapest first; a change in a loop at fault costs 1 less."""
         guilty, alphabet = self.guilty([tree])[0], self.pattern.alphabet
         found: List[Proposal] = []
-        for rule in WHOLE:
+        for rule in self.whole:
             for new in rule.rewrite(tree, alphabet):
                 found += self.proposal(rule, rule.cost, new)
         for rule in RULES:
@@ -398,8 +399,31 @@ class Search:
         if "search" in methods:
             needs.append([asked("search"), *([] if position else [asked("one-search")])])
         if methods & REPEATED:
-            needs.append([asked("search")])
+            # (or else what is found first, and what is found behind a match, which only a guard tells apart)
+            has_new = len(GUARDS.findall(as_text(new))) > len(GUARDS.findall(self.pattern.text))
+            later = self.behind_a_match(new, groups) if has_new and not position else []
+            needs += [[asked("search"), *it] for it in ([[asked("one-search")], later] if later else [[]])]
         return needs
+
+    def behind_a_match(self, new: Text, groups: bool) -> List[Dict[str, Any]]:
+        """Returns a question whether a search from behind a match on finds the same; none if a match may be empty.
+
+        Nothing sees more of what stands before the place where a search begins than whether there is a character, and which
+        one: and that is the last one of a match. So both are looked for behind one such character.
+        """
+        tree, both = self.pattern.tree, [self.original, new]
+        last = self.pattern.alphabet.show(ends(tree))
+        if tree.facts.nullable or last is None:
+            return []
+        if not groups and tree.facts.groups:
+            # (the group around it tells where a match begins)
+            try:
+                read = [read_pattern(it, self.how.flags, self.asker) for it in both]
+                both = [it.encoded(nodes.written(stripped(it.tree), it)) for it in read]
+            except Unreadable:
+                return []
+        one, other = (_between(it, f"\\A{last}[\\s\\S]*?(", ")", self.pattern.verbose) for it in both)
+        return [pair("spans", one, other, self.how.flags, mode="one-search")]
 
     # At the end
 
@@ -418,27 +442,10 @@ class Search:
             self.judged(Proposal(0, "suggestion", tree, text), (ranks[0], 0, tuple(ranks[1:])), verdicts[0], ())
 
     def stop_runs(self) -> None:
-        r"""Tries runs that take all that they can, by looks of one character, as in `(?<!\d)\d+(?!\d)`."""
-        self.tries = 0
-        every = [it for tree in self.with_looks() for it in self.proposal(STOPPED, STOPPED.cost, tree)]
-        kinds = dict(zip((it.text for it in every), self.kinds([it.text for it in every])[0]))
-        for it, worth, verdict in self.worths([it for it in every if kinds[it.text] <= self.how.goal()], self.before):
-            if worth[0] < self.before[0]:
-                self.judged(it, worth, verdict, ())
-
-    def with_looks(self) -> Iterator[Node]:
-        """Yields the tree with a look behind one endless run or all of them, also with one in front of a run that is first."""
-        tree = self.pattern.tree
-        runs, first = list(endless_runs(tree)), edge(tree, 0)
-        chosen: List[List[Tuple[Path, Node]]] = [[]] if first is not None else []
-        for some in [*chosen, *([it] for it in runs), *([runs] if len(runs) > 1 else [])]:
-            new = tree
-            # (from right to left, since a new item moves those behind it)
-            for path, node in reversed(some):
-                new = put(new, path, row([node, look(False, True, node.body.mask)]))
-            yield from [new] if some else []
-            if first is not None:
-                yield row([look(True, True, first.body.mask), new])
+        """Searches once more from the pattern on, with rules that write looks of one character."""
+        self.tries = self.trees = self.kept_at = 0
+        self.whole = *WHOLE, *LOOKS
+        self.walk(nodes.written(self.pattern.tree, self.pattern), MOST_STEPS)
 
     def stop_at_words(self) -> None:
         """Tries runs that stop at the first word behind them, by an atomic group or a look-ahead.
