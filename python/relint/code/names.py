@@ -209,6 +209,10 @@ class Names:
                           for word in WORD.findall(it.value)}
         return self._ways
 
+    def dotted(self) -> Set[str]:
+        """Returns all strings that are names with dots, such as "a.b"."""
+        return {it.value for it in self._strings if "." in it.value and WAY.fullmatch(it.value)}
+
     def classes_with(self, base: str) -> Sequence[ast.ClassDef]:
         """Returns the classes with a base that is written `base` or `x.base`, or, for "", one that is written otherwise."""
         if self._by_base is None:

@@ -26,6 +26,8 @@ OPEN = frozenset(("__dict__", "__subclasses__", "__bases__", "__mro__", "mro", "
 SETTERS = ("setattr", "delattr", "__setattr__", "__delattr__")
 WRITERS = (*SETTERS, "vars", "globals", "locals", "__dict__", "modules", "patch", "new_class", "make_dataclass")
 GIVERS = ("getattr", "attrgetter", "globals", "vars", "locals", "eval", "exec", "__dict__", "getmembers", "get_objects")
+# What gives a module by its name, or by what stands in it.
+REACHING = ("modules", "import_module", "__import__", "getmodule")
 # Words without which a file doesn't bind by a text at all.
 WRITING = (b"setattr", b"delattr", b"vars", b"__dict__", b"getattr", b"attrgetter", b"getmembers", b"globals", b"locals",
            b"modules", b"patch", b"eval", b"type", b"new_class", b"make_dataclass")
@@ -114,8 +116,11 @@ def can_set_attributes(names: Names, is_module: bool = False) -> bool:
                 return True
             given = [*call.args, *(it.value for it in call.keywords)]
             is_plain = any(isinstance(it, ast.Constant) and isinstance(it.value, str) for it in given[:2])
-            is_own = is_module and bool(given) and self_class(given[0], names) is not None
-            if not is_plain and not is_own and not (word[0] == "_" and _is_super(load)):
+            is_other = is_module and bool(given) and self_class(given[0], names) is not None
+            # (a module of `sys.modules` is no pattern)
+            is_other = is_other or is_module and any(isinstance(it, ast.Subscript) and last_name(it.value) == "modules"
+                                                     for it in given[2:3])
+            if not is_plain and not is_other and not (word[0] == "_" and _is_super(load)):
                 return True
     for load in names.loads(names.module, "vars"):
         call = names.parents.get(load)
@@ -161,8 +166,7 @@ def can_set_names(names: Names) -> bool:
             is_module = word == "globals" or names.inside[load].kind in ("module", "class")
             if not call.args and is_module and not _is_read(call, names):
                 return True
-    can_reach = any(_loads(it, names) for it in ("modules", "import_module", "__import__"))
-    return can_reach and can_set_attributes(names, True)
+    return any(_loads(it, names) for it in REACHING) and can_set_attributes(names, True)
 
 
 def _is_read(node: ast.AST, names: Names) -> bool:
@@ -275,10 +279,12 @@ class Changes:
         statements = b"\n".join(import_statements(data)) if is_asked else b""
         words = set(WORDS.findall(statements))
         found: Set[int] = set()
-        for word in words & self._by_stem.keys() if is_dynamic or makes else ():
-            # (names of a module are bound by a text only where the module itself is imported)
-            is_module = is_dynamic and word in WORDS.findall(FROM.sub(b"", statements))
-            found.update(at for at in self._by_stem[word] if is_module or self.needs[at].kind == "attribute")
+        reaches = is_dynamic and any(it.encode() in data for it in REACHING)
+        modules = set(WORDS.findall(FROM.sub(b"", statements))) if is_dynamic else set()
+        for word in self._by_stem if is_dynamic or makes else ():
+            # (names of a module are bound by a text only where the module is imported, or reached in another way)
+            is_module = is_dynamic and (word in modules or word in data and (reaches or _is_behind_dot(word, data)))
+            found.update(at for at in self._by_stem[word] if is_module or word in words and self.needs[at].kind == "attribute")
         for name in sorted(there):
             is_text = name + b'"' in data or name + b"'" in data
             is_attribute = _is_behind_dot(name, data)
@@ -344,8 +350,10 @@ def may_change(names: Names, need: Need) -> bool:
     words = {part.name for it in names.imports for part in it.names}
     if need.kind == "attribute":
         words.update(it.module or "" for it in names.imports if isinstance(it, ast.ImportFrom))
-    is_near = any(stem in it.split(".") for it in words)
-    if is_near and can_set_attributes(names, need.kind == "name"):
+    is_near = any(stem in it.split(".") for it in words) or (
+        any(_is_of_import(it, names) for it in names.attributes.get(stem, ())))
+    is_reached = is_near or any(stem in it.split(".") for it in reached(names))
+    if is_reached and can_set_attributes(names, need.kind == "name"):
         return True
     attributes = names.attributes.get(name, ())
     if need.is_list and (is_near or name in names.ways()) and can_give(name, names):
@@ -360,6 +368,27 @@ def may_change(names: Names, need: Need) -> bool:
             return is_renamed or any(it.owner is None for it in its) or not _is_untouched(need.owner, names)
         return bool(binders(name, names))
     return need.is_list and _is_list_changed(name, names)
+
+
+def reached(names: Names) -> Set[str]:
+    """Returns the names of modules that a source may get by a text, as in `sys.modules["a.b"]`.
+
+    For a text that isn't known they are all names with dots in its strings, and the modules from which it imports.
+    """
+    found: Set[str] = set()
+    for above in [names.parents.get(load) for word in REACHING for load in _loads(word, names)]:
+        texts = [it.value for it in ast.walk(above) if isinstance(it, ast.Constant)] if above is not None else []
+        found.update(it for it in texts if isinstance(it, str))
+        if not texts:
+            found |= names.dotted() | {it.module or "" for it in names.imports if isinstance(it, ast.ImportFrom)}
+    return found
+
+
+def _is_of_import(node: ast.AST, names: Names) -> bool:
+    """Whether an attribute is one of what is imported, as `b` and `c` in `a.b.c` behind `import a`."""
+    while isinstance(node, ast.Attribute):
+        node = node.value
+    return isinstance(node, ast.Name) and any(isinstance(it, ast.alias) for it in names.meant(node))
 
 
 def _is_list_changed(name: str, names: Names) -> bool:
