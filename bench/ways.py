@@ -18,7 +18,7 @@ from typing import Any, FrozenSet, Iterable, Iterator, List, Mapping, NamedTuple
 MOST_PARTS = 20_000
 FLAGS = {"a": re.A, "i": re.I, "m": re.M, "s": re.S, "u": re.U, "x": re.X}
 # What `re` skips in a verbose pattern, and comments, which it skips in any.
-BLANKS, COMMENT = re.compile(r"(?:[ \t\n\r\v\f]|#[^\n]*)+"), re.compile(r"\(\?#[^)]*\)")
+BLANKS, COMMENT = re.compile(r"(?:[ \t\n\r\v\f]|#[^\n]*)+"), re.compile(r"\(\?#(?:[^)\\]|\\.)*\)", re.S)
 CLASS = re.compile(r"\[\^?\]?(?:[^\]\\]|\\.)*\]", re.S)
 ESCAPE = re.compile(r"\\(?:x[0-9a-fA-F]{2}|u[0-9a-fA-F]{4}|U[0-9a-fA-F]{8}|0[0-7]{0,2}|[1-3][0-7]{2}|[dDsSwWabfnrtvABZ]"
                     r"|[^a-zA-Z0-9])")
@@ -213,7 +213,7 @@ class Tree:
         part, index, rounds = point
         inside, sides, others = part.parts[index:index + 1], ("", ""), behind(part, rounds)
         if part.kind == "guard":
-            # (what follows doesn't matter to a guard, but that something does)
+            # (a look that relint-ask reads sees one character, and an anchor whether the text goes on)
             others = others if self.test(part, before + letter + "aa", len(before)) else []
         elif part.kind == "loop":
             sides, rounds = ("round", "stop"), rounds | {part}
