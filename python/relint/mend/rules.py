@@ -249,7 +249,9 @@ def seam(node: Node, alphabet: Alphabet) -> Iterator[Node]:
     body = stripped(node.body) if node.endless and node.least < 2 else EMPTY
     parts = items_of(body)
     run, sign = (run_of(parts[-2]), run_of(parts[-1])) if len(parts) > 2 else (None, None)
-    if run is None or sign is None or not run.endless or run.least > 1 or not run.mask & sign.mask or not run.mask & ~sign.mask:
+    if run is None or sign is None or not run.endless or run.least > 1:
+        return
+    if not run.mask & sign.mask or not run.mask & ~sign.mask:
         return
     own = with_run(parts[-2], run.least, run.most, run.mask & ~sign.mask)
     yield as_often(node, row([star(row([*parts[:-2], own, parts[-1]]), node.greedy), node.body]))
@@ -732,7 +734,7 @@ def word_of(items: Sequence[Node]) -> List[int]:
 
 
 def spelled(mask: int, word: Sequence[int]) -> Optional[Node]:
-    """Returns a character of a mask that begins no word, or as much of a word as is no word; None if its first one comes again.
+    """Returns a character of a mask that begins no word, or as much of one as is none; None if its first one comes again.
 
     The word is given by the mask of each of its characters.
     """
@@ -765,7 +767,7 @@ def stop_run(tree: Node, alphabet: Alphabet) -> Iterator[Node]:
 
 
 def first_runs(tree: Node, path: Path = ()) -> Iterator[Tuple[Path, Node]]:
-    """Yields the endless runs with which a match can begin, after the path to them, as far as they stand in rows and groups."""
+    """Yields the paths and endless runs with which a match can begin, as far as they stand in rows and groups."""
     if tree.is_run and tree.endless:
         yield path, tree
     for at, it in enumerate(tree.items if tree.kind in (ROW, GROUP) else ()):
