@@ -26,6 +26,8 @@ OPEN = frozenset(("__dict__", "__subclasses__", "__bases__", "__mro__", "mro", "
 SETTERS = ("setattr", "delattr", "__setattr__", "__delattr__")
 WRITERS = (*SETTERS, "vars", "globals", "locals", "__dict__", "modules", "patch", "new_class", "make_dataclass")
 GIVERS = ("getattr", "attrgetter", "globals", "vars", "locals", "eval", "exec", "__dict__", "getmembers", "get_objects")
+# Names and dots in front of a dot, and a name with blanks between it and a dot.
+CHAIN, APART = re.compile(rb"[\w\x80-\xff.]+\Z"), re.compile(rb"\.[\s\\]+([\w\x80-\xff]+)")
 # What gives a module by its name, or by what stands in it.
 REACHING = ("modules", "import_module", "__import__", "getmodule")
 # Words without which a file doesn't bind by a text at all.
@@ -280,10 +282,12 @@ class Changes:
         words = set(WORDS.findall(statements))
         found: Set[int] = set()
         reaches = is_dynamic and any(it.encode() in data for it in REACHING)
+        apart = set(APART.findall(data)) if is_dynamic else set()
         modules = set(WORDS.findall(FROM.sub(b"", statements))) if is_dynamic else set()
         for word in self._by_stem if is_dynamic or makes else ():
             # (names of a module are bound by a text only where the module is imported, or reached in another way)
-            is_module = is_dynamic and (word in modules or word in data and (reaches or _is_behind_dot(word, data)))
+            is_quoted = reaches and (word in words or word + b'"' in data or word + b"'" in data)
+            is_module = is_dynamic and (word in modules or is_quoted or word in apart or _is_part(word, data, words))
             found.update(at for at in self._by_stem[word] if is_module or word in words and self.needs[at].kind == "attribute")
         for name in sorted(there):
             is_text = name + b'"' in data or name + b"'" in data
@@ -321,6 +325,18 @@ def _is_behind_dot(name: bytes, data: bytes) -> bool:
         if before.endswith(b".") or before[-1:] in b" \t\r\n\f\\" and BEHIND_DOT.search(before):
             return True
         at = data.find(name, at + len(name))
+    return False
+
+
+def _is_part(name: bytes, data: bytes, imported: Set[bytes]) -> bool:
+    """Whether a name may stand right behind an imported one and a dot in the bytes of a file."""
+    at = data.find(b"." + name)
+    while at >= 0:
+        end = at + 1 + len(name)
+        chain = CHAIN.search(data, max(0, at - 400), at) if data[end:end + 1] not in LETTERS else None
+        if chain and not imported.isdisjoint(chain.group().split(b".")):
+            return True
+        at = data.find(b"." + name, at + 1)
     return False
 
 
